@@ -1,0 +1,85 @@
+//! Members of an object, one after another, at the end of a vector.
+ghost use Rattle.std.specs.Prelude.{◌≡◌, ◌++◌, ◌∷◌, [], List, ℕ, ◌≤◌, ◌+◌, length, decimal, true, Some, option_map};
+ghost use Rattle.std.specs.List.{list_all};
+ghost use Rattle.json.specs.Print.{quoted};
+ghost use Rattle.pm_model.specs.Name.{is_name_byte};
+ghost use Rattle.pm_model.specs.Object.{whole, whole_if, texted};
+ghost use Rattle.pm_model.specs.Text.{said};
+ghost use Rattle.pm_model.specs.Words.{key_text};
+ghost use Rattle.pm_json.specs.Growth.{Appended};
+ghost use Rattle.pm_json.specs.Members.{keyed, trailing};
+
+use itoa::Buffer;
+use pm_model::{Key, Memory, Word};
+
+/// Appends the bytes.
+pub(crate) fn put(out: &mut Vec<u8>, text: &[u8]) -> Result<(), Memory>
+    ensures { Appended out.old out.new text.now result }
+{
+    out.extend_from_slice(text)?;
+    Ok(())
+}
+
+/// Appends the number.
+pub(crate) fn put_decimal(out: &mut Vec<u8>, n: u64) -> Result<(), Memory>
+    ensures { Appended out.old out.new (decimal n) result }
+{
+    let mut buffer = Buffer::new();
+    put(out, buffer.format(n).as_bytes())
+}
+
+fn put_between_quotes(out: &mut Vec<u8>, text: &[u8]) -> Result<(), Memory>
+    ensures { Appended out.old out.new (34 ∷ (text.now ++ 34 ∷ [])) result }
+{
+    put(out, b"\"")?;
+    put(out, text)?;
+    put(out, b"\"")
+}
+
+/// Appends the text in quotes. It needs no escape.
+fn put_quoted(out: &mut Vec<u8>, text: &[u8]) -> Result<(), Memory>
+    requires { list_all is_name_byte text.now ≡ true }
+    ensures { Appended out.old out.new (quoted text.now) result }
+{
+    put_between_quotes(out, text)
+}
+
+/// Appends the key and its colon.
+#[tactic(auto, unfolding(crate::specs::Members::keyed))]
+pub(crate) fn put_key(out: &mut Vec<u8>, key: Key) -> Result<(), Memory>
+    ensures { Appended out.old out.new (keyed (key_text key)) result }
+{
+    put_quoted(out, key.text().as_bytes())?;
+    put(out, b":")
+}
+
+/// Appends a member that is a number, and a comma.
+#[tactic(auto, unfolding(crate::specs::Members::trailing))]
+fn put_number(out: &mut Vec<u8>, key: Key, n: u64) -> Result<(), Memory>
+    ensures { Appended out.old out.new (trailing (key_text key) (whole n)) result }
+{
+    put_key(out, key)?;
+    put_decimal(out, n)?;
+    put(out, b",")
+}
+
+/// Appends a member that is a number, and a comma, where there is one.
+#[tactic(auto, unfolding(crate::specs::Members::trailing))]
+pub(crate) fn put_number_if(out: &mut Vec<u8>, key: Key, n: Option<u64>) -> Result<(), Memory>
+    ensures { Appended out.old out.new (trailing (key_text key) (whole_if n)) result }
+{
+    match n {
+        None => Ok(()),
+        Some(n) => put_number(out, key, n),
+    }
+}
+
+/// Appends a member that is a fixed text, and a comma.
+#[tactic(auto, unfolding(crate::specs::Members::trailing))]
+pub(crate) fn put_word(out: &mut Vec<u8>, key: Key, word: Word) -> Result<(), Memory>
+    ensures { Appended out.old out.new (trailing (key_text key) (said word)) result }
+{
+    put_key(out, key)?;
+    put_quoted(out, word.text().as_bytes())?;
+    put(out, b",")
+}

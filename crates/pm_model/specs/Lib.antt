@@ -1,0 +1,14 @@
+pub mod Answer
+pub mod Asked
+pub mod Causes
+pub mod Effect
+pub mod Lines
+pub mod Name
+pub mod NameFields
+pub mod Object
+pub mod Resolve
+pub mod Results
+pub mod Solo
+pub mod State
+pub mod Text
+pub mod Words

@@ -1,0 +1,35 @@
+use crate::names::Name;
+use std::marker::Model;
+
+/// The number of an element. Contracts see a number.
+#[derive(Clone, Copy, Debug, PartialEq, Eq)]
+pub struct ElementId(pub u32);
+
+impl Model for ElementId {
+    ghost use Rattle.std.specs.Prelude.{ℕ};
+
+    ghost Value = { ℕ };
+
+    ghost view = { λ e. e.0 };
+
+    ghost inverse = { λ n. record { 0 = n } };
+}
+
+/// What an element is: a user, a user attribute, an object, an object attribute or a policy class.
+/// The standard's policy elements, with its names for them shortened.
+#[derive(Clone, Copy, Debug, PartialEq, Eq)]
+pub enum Kind {
+    User,
+    Ua,
+    Object,
+    Oa,
+    Pc,
+}
+
+/// A policy element: its number, which no other live element has, its kind and its name.
+#[derive(Drop)]
+pub struct Element {
+    pub number: ElementId,
+    pub kind: Kind,
+    pub name: Name,
+}

@@ -1,0 +1,134 @@
+ghost use Rattle.std.specs.Prelude.{◌≡◌, ◌↔◌, ◌≤◌, IsTrue, IsSome, IfSome, length, replicate, ◌-◌, ◌++◌, ◌&&◌, nat_lt, nat_le};
+ghost use Rattle.std.specs.List.{list_all};
+ghost use Rattle.pm_model.specs.Name.{is_name, is_name_byte};
+
+use std::hash::{Hash, Hasher};
+use std::marker::Model;
+
+const LONGEST: usize = 64;
+
+/// A name of 1 to 64 ASCII letters, digits, `_`, `-` and `.`. It takes no memory of its own and is
+/// copied. Contracts see the list of its bytes.
+pub struct Name {
+    bytes: [u8; 64],
+    len: u8,
+}
+
+impl Model for Name {
+    ghost use Rattle.std.specs.Prelude.{List, ℕ, take};
+
+    ghost Value = { List ℕ };
+
+    ghost use Rattle.pm_model.specs.NameFields.{IsPadded, fields_of, fields_of-view};
+
+    ghost view = { λ n. take n.len n.bytes };
+
+    ghost invariant = { IsPadded };
+
+    ghost inverse = { fields_of };
+
+    ghost inverse_ok = { fields_of-view };
+}
+
+impl Clone for Name {
+    fn clone(&self) -> Result<Name, std::alloc::AllocError> {
+        Ok(*self)
+    }
+}
+
+impl Copy for Name {}
+
+impl PartialEq for Name {
+    ghost use Rattle.std.specs.Prelude.{bytes_eq};
+    ghost use Rattle.std.proofs.Common.{rules};
+    ghost use Rattle.std.specs.Cmp.Rules.{comparing};
+
+    ghost eq = { bytes_eq };
+
+    ghost laws = { Prim.search (comparing, rules) };
+
+    fn eq(&self, other: &Name) -> bool {
+        self.bytes() == other.bytes()
+    }
+}
+
+impl Eq for Name {
+    ghost use Rattle.std.proofs.Common.{rules};
+    ghost use Rattle.std.specs.Cmp.Rules.{comparing};
+
+    ghost laws = { Prim.search (comparing, rules) };
+}
+
+impl Hash for Name {
+    ghost use Rattle.std.specs.Hash as fed;
+    ghost use Rattle.std.proofs.Common.{rules};
+    ghost use Rattle.std.specs.Cmp.Rules.{hashing};
+
+    ghost hash_input = { fed.slice fed.u8 };
+
+    ghost respects_eq = { Prim.search (hashing, rules) };
+
+    fn hash<H: Hasher>(&self, state: &mut H) {
+        self.bytes().hash(state);
+    }
+}
+
+fn is_name_byte(byte: u8) -> bool
+    ensures { result ≡ is_name_byte byte }
+{
+    matches!(byte, b'a'..=b'z' | b'A'..=b'Z' | b'0'..=b'9' | b'_' | b'-' | b'.')
+}
+
+fn all_name_bytes(bytes: &[u8]) -> bool
+    ensures { result ≡ list_all is_name_byte bytes.now }
+{
+    bytes.iter().all(|byte| is_name_byte(*byte))
+}
+
+fn has_name_length(len: usize) -> bool
+    ensures { result ≡ (nat_lt 0 len && nat_le len 64) }
+{
+    0 < len && len <= LONGEST
+}
+
+fn is_name(bytes: &[u8]) -> bool
+    ensures { result ≡ is_name bytes.now }
+{
+    has_name_length(bytes.len()) && all_name_bytes(bytes)
+}
+
+// The bytes, and then zeros: two names with the same bytes have the same fields.
+fn padded(bytes: &[u8]) -> [u8; 64]
+    requires { length bytes.now ≤ 64 }
+    ensures { result ≡ bytes.now ++ replicate (64 - length bytes.now) 0 }
+{
+    let mut held = [0u8; 64];
+    for (i, byte) in bytes.iter().enumerate() {
+        held[i] = *byte;
+    }
+    held
+}
+
+impl Name {
+    /// The name of these bytes; None exactly where they have no name's form.
+    pub fn new(bytes: &[u8]) -> Option<Name>
+        ensures some { IfSome result (λ n. n ≡ bytes.now) }
+        ensures exactly { IsSome result ↔ IsTrue (is_name bytes.now) }
+    {
+        if !is_name(bytes) {
+            return None;
+        }
+        Some(Name {
+            bytes: padded(bytes),
+            len: bytes.len() as u8,
+        })
+    }
+
+    /// The bytes of the name.
+    pub fn bytes(&self) -> &[u8]
+        ensures bytes { result.now ≡ self.now }
+        ensures named { IsTrue (is_name self.now) }
+    {
+        &self.bytes[..self.len as usize]
+    }
+}

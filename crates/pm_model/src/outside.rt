@@ -1,0 +1,43 @@
+ghost use Rattle.std.specs.Prelude.{◌≡◌, ◌≤◌, ◌<◌, ℕ, List, Option, length, OnOk, OnErr, IfOk};
+ghost use Rattle.std.specs.Io.{ReadsAtMost, WritesAtMost};
+ghost use Rattle.std.specs.Io.KnownBytes.{ReadConsumes, WriteAppends};
+ghost use Rattle.pm_model.specs.Causes.{HasCause, TakesNothingByFault};
+
+/// The object that was asked has failed.
+#[derive(Clone, Copy, Debug, PartialEq, Eq)]
+pub struct Failed;
+
+/// Where bytes come from.
+pub trait Source {
+    /// The bytes that are left, where it tells them.
+    ghost left: { Self → Option (List ℕ) };
+
+    /// How often it has failed. The count never falls, and stands still at 2^64 - 1.
+    ghost faults: { Self → ℕ };
+
+    /// Reads some bytes to the front of the piece, and says how many. 0 bytes say that none are left.
+    /// Failed comes only where the count of faults rose in this call; nothing was read then.
+    fn read(&mut self, piece: &mut [u8]) -> Result<usize, Failed>
+        requires { 0 < length piece.old }
+        ensures bound { ReadsAtMost result piece.new }
+        ensures bytes { ReadConsumes (left self.old) (left self.new) result piece.new }
+        ensures cause { HasCause (faults self.old) (faults self.new) result };
+}
+
+/// Where bytes go.
+pub trait Sink {
+    /// The bytes that it took, where it tells them.
+    ghost taken: { Self → Option (List ℕ) };
+
+    /// How often it has failed. The count never falls, and stands still at 2^64 - 1.
+    ghost faults: { Self → ℕ };
+
+    /// Takes some of the first bytes of the piece, and says how many. It takes none of a piece that
+    /// isn't empty only where the count of faults rose in this call. Failed comes only where the
+    /// count rose in this call; nothing was taken then.
+    fn write(&mut self, piece: &[u8]) -> Result<usize, Failed>
+        ensures bound { WritesAtMost result piece.now }
+        ensures bytes { WriteAppends (taken self.old) (taken self.new) result piece.now }
+        ensures cause { HasCause (faults self.old) (faults self.new) result }
+        ensures nothing { TakesNothingByFault (faults self.old) (faults self.new) result piece.now };
+}
