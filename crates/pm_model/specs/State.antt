@@ -19,7 +19,7 @@ abbrev pub element : ℕ → Kind → List ℕ → Element
 element n k s = record { number = n; kind = k; name = s }
 
 abbrev pub is_named : List ℕ → Element → Bool
-is_named name e = bytes_eq e.name name
+is_named name e = bytes_eq name e.name
 
 -- the state at the start: the class `pm`, its administrators, and the user `root` among them
 abbrev pub opening : State

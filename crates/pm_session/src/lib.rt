@@ -1,13 +1,7 @@
-// A library with one function.
+//! One connection's bytes: its input, cut into lines, and its output.
 #![tactic(auto)]
 
-ghost use Rattle.std.specs.Prelude.{◌≡◌};
-ghost use Rattle.pm_session.specs.Echo.{echo_of};
+mod session;
+mod waiting;
 
-// The `ensures` clause is the contract: what `echo` returns is `echo_of` of its argument, a definition
-// in `specs/Echo.antt`, which a caller's clause can cite too.
-pub fn echo(x: usize) -> usize
-    ensures { result ≡ echo_of x }
-{
-    x
-}
+pub use session::Session;

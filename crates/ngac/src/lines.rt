@@ -1,0 +1,145 @@
+// The whole lines that wait are answered, and their replies written.
+ghost use Rattle.std.specs.Prelude.{◌≡◌, ◌≤◌, ◌<◌, ◌++◌, [], Some, None, List, ℕ, length, drop, IfOk, OnOk, OnErr, MatchOption};
+ghost use Rattle.std.specs.Io.KnownBytes.{Appends};
+ghost use Rattle.pm_model.specs.Causes.{HasCause, Rose};
+ghost use Rattle.pm_model.specs.Lines.{cut, event_of};
+ghost use Rattle.pm_model.specs.Solo.{asked_at, answer_what, line_told, replies};
+ghost use Rattle.pm_model.specs.Answer.{after};
+ghost use Rattle.pm_session.specs.Taken.{shown, rest_of};
+ghost use Rattle.ngac.specs.Wrote.{Wrote, WrotePart};
+ghost use Rattle.ngac.specs.Ahead.{ahead};
+ghost use Rattle.ngac.specs.Parts.{IsNextAsked, HasStopCause};
+
+use pm_json::read_request;
+use pm_model::{Asked, BadLine, Failed, LineEvent, Memory, Sink, What};
+use pm_session::Session;
+use pm_step::Solo;
+use std::alloc::Global;
+
+/// Why answering stopped.
+#[derive(Clone, Copy, Debug, PartialEq, Eq)]
+pub(crate) enum Stop {
+    WriteFault,
+    Memory,
+}
+
+impl From<Memory> for Stop {
+    ghost use Rattle.std.specs.Prelude.{◌≡◌};
+    ghost use Rattle.ngac.specs.declared.lines.Stop.TheVariants as stop;
+
+    ghost from_gives = { λ _ e. e ≡ stop.Memory };
+
+    fn from(_: Memory) -> Stop {
+        Stop::Memory
+    }
+}
+
+impl From<Failed> for Stop {
+    ghost use Rattle.std.specs.Prelude.{◌≡◌};
+    ghost use Rattle.ngac.specs.declared.lines.Stop.TheVariants as stop;
+
+    ghost from_gives = { λ _ e. e ≡ stop.WriteFault };
+
+    fn from(_: Failed) -> Stop {
+        Stop::WriteFault
+    }
+}
+
+fn rest(bytes: &[u8], from: usize) -> &[u8]
+    requires { from ≤ length bytes.now }
+    ensures { result.now ≡ drop from bytes.now }
+{
+    &bytes[from..]
+}
+
+/// Writes the bytes whole.
+pub(crate) fn write_all<O: Sink>(out: &mut O, bytes: &[u8]) -> Result<(), Failed>
+    ensures ok { OnOk result (Appends (O.taken out.old) (O.taken out.new) bytes.now) }
+    ensures err { OnErr result (WrotePart (O.taken out.old) (O.taken out.new) (λ _. bytes.now)) }
+    ensures cause { HasCause (O.faults out.old) (O.faults out.new) result }
+{
+    let mut sent = 0;
+    while sent < bytes.len() {
+        let count = out.write(rest(bytes, sent))?;
+        if count == 0 {
+            return Err(Failed);
+        }
+        sent += count;
+    }
+    Ok(())
+}
+
+fn asked_by(alloc: Global, event: LineEvent) -> Result<Asked, Memory>
+    ensures { IfOk result (λ a. a ≡ asked_at (shown event.entry)) }
+{
+    match event {
+        LineEvent::Line(line) => read_request(alloc, line),
+        LineEvent::TooLong => Ok(Asked {
+            id: None,
+            what: What::Bad(BadLine::NotRequest),
+        }),
+    }
+}
+
+fn next_asked(alloc: Global, session: &mut Session) -> Result<Option<Asked>, Memory>
+    ensures asked { IfOk result (IsNextAsked session.old.waiting) }
+    ensures waiting { session.new.waiting ≡ rest_of session.old.waiting (cut session.old.waiting) }
+    ensures output { session.new.output ≡ session.old.output }
+{
+    match session.take() {
+        None => Ok(None),
+        Some(event) => {
+            let asked = asked_by(alloc, event)?;
+            Ok(Some(asked))
+        }
+    }
+}
+
+fn answer(session: &mut Session, solo: &mut Solo, asked: &Asked) -> Result<(), Memory>
+    ensures output { OnOk result (session.new.output ≡ session.old.output ++ line_told asked.now.id solo.old (answer_what solo.old asked.now.what)) }
+    ensures state { OnOk result (solo.new ≡ after solo.old (answer_what solo.old asked.now.what)) }
+    ensures waiting { session.new.waiting ≡ session.old.waiting }
+{
+    match &asked.what {
+        What::Bad(bad) => session.bad(asked.id, solo.version(), bad),
+        What::Request(request) => {
+            let (reply, version) = solo.ask(request)?;
+            session.reply(asked.id, version, &reply)
+        }
+    }
+}
+
+fn send<O: Sink>(session: &mut Session, out: &mut O) -> Result<(), Failed>
+    ensures ok { OnOk result (Appends (O.taken out.old) (O.taken out.new) session.old.output) }
+    ensures sent { OnOk result (session.new.output ≡ []) }
+    ensures err { OnErr result (WrotePart (O.taken out.old) (O.taken out.new) (λ _. session.old.output)) }
+    ensures cause { HasCause (O.faults out.old) (O.faults out.new) result }
+    ensures waiting { session.new.waiting ≡ session.old.waiting }
+{
+    write_all(out, session.out())?;
+    let count = session.out().len();
+    session.sent(count);
+    Ok(())
+}
+
+/// Answers each whole line that waits.
+pub(crate) fn answer_lines<O: Sink>(
+    alloc: Global,
+    session: &mut Session,
+    solo: &mut Solo,
+    out: &mut O,
+) -> Result<(), Stop>
+    requires { session.old.output ≡ [] }
+    ensures ok { OnOk result (Wrote (O.taken out.old) (O.taken out.new)
+        (ahead solo.old session.old.waiting) (ahead solo.new session.new.waiting)) }
+    ensures drained { OnOk result (cut session.new.waiting ≡ None) }
+    ensures sent { OnOk result (session.new.output ≡ []) }
+    ensures err { OnErr result (WrotePart (O.taken out.old) (O.taken out.new) (ahead solo.old session.old.waiting)) }
+    ensures cause { HasStopCause (O.faults out.old) (O.faults out.new) result }
+{
+    while let Some(asked) = next_asked(alloc, session)? {
+        answer(session, solo, &asked)?;
+        send(session, out)?;
+    }
+    Ok(())
+}

@@ -1,0 +1,3 @@
+pub mod LineLaws
+pub mod Pushing
+pub mod Taking

@@ -1,0 +1,14 @@
+-- What a session holds.
+use Rattle.std.specs.Prelude.{◌≤◌, length, drop, vec_capacity}
+use Rattle.pm_session.specs.Streams.{Streams}
+use Rattle.pm_session.specs.Waiting.{IsWaiting}
+use Rattle.pm_session.specs.declared.session.Session.TheInside.{Inside}
+
+abbrev pub streams_of : Inside → Streams
+streams_of s = record { waiting = drop s.start s.waiting.items; output = s.output.items; capacity = vec_capacity s.output }
+
+pub record IsHeld (s : Inside) : Type 0 where
+  pub begun : s.start ≤ length s.waiting.items
+  pub within : length s.waiting.items ≤ 16384
+  pub room : 16384 ≤ vec_capacity s.waiting
+  pub kept : IsWaiting (drop s.start s.waiting.items) s.tail

@@ -1,0 +1,133 @@
+ghost use Rattle.std.specs.Prelude.{◌≡◌, ◌≤◌, ◌<◌, ◌+◌, ◌++◌, [], length, take, drop, Some, None, IfOk, OnOk, OnErr, IsOk};
+ghost use Rattle.pm_model.specs.Lines.{shape, cut};
+ghost use Rattle.pm_model.specs.Text.{text};
+
+use crate::waiting::{ROOM, line_at, part, push_bytes, remove_front};
+use pm_json::{print_bad, print_reply};
+use pm_model::{BadLine, LineEvent, Memory, Reply};
+use std::alloc::Global;
+use std::marker::Model;
+
+const OUTPUT: usize = 1024;
+
+const LONGEST: usize = 8192;
+
+/// What has come and isn't answered yet, and what is to be sent. Contracts see the two lists of
+/// bytes. The input buffer of 16,384 bytes is taken once, whatever comes.
+#[derive(Drop)]
+pub struct Session {
+    waiting: Vec<u8>,
+    start: usize,
+    tail: usize,
+    output: Vec<u8>,
+}
+
+impl Model for Session {
+    ghost use Rattle.pm_session.specs.Streams.{Streams};
+
+    ghost Value = { Streams };
+
+    ghost use Rattle.pm_session.specs.Held.{IsHeld, streams_of};
+
+    ghost view = { streams_of };
+
+    ghost invariant = { IsHeld };
+}
+
+impl Session {
+    ghost use Rattle.std.specs.Borrow.{sem};
+    ghost use Rattle.std.specs.Io.BufRead.{Rests};
+    ghost use Rattle.pm_session.specs.contracts.session.Session.{the_row};
+    ghost use Rattle.pm_session.specs.Taken.{Shows, LeavesRest};
+
+    /// Nothing waits, and 1,024 bytes of output have their room.
+    pub fn new(alloc: Global) -> Result<Session, Memory>
+        ensures { IfOk result (λ s. s ≡ record { waiting = []; output = []; capacity = OUTPUT }) }
+    {
+        Ok(Session {
+            waiting: Vec::with_capacity(alloc, ROOM)?,
+            start: 0,
+            tail: 0,
+            output: Vec::with_capacity(alloc, OUTPUT)?,
+        })
+    }
+
+    /// Takes some of the first bytes, and says how many. A line of more than 8,192 bytes is kept as
+    /// 8,193 spaces.
+    pub fn push(&mut self, bytes: &[u8]) -> usize
+        ensures waiting { self.new.waiting ≡ shape (self.old.waiting ++ take result bytes.now) }
+        ensures output { self.new.output ≡ self.old.output }
+        ensures capacity { self.new.capacity ≡ self.old.capacity }
+        ensures count { result ≤ length bytes.now }
+        ensures all { cut self.old.waiting ≡ None → length bytes.now ≤ 4096 → result ≡ length bytes.now }
+        ensures some { cut self.old.waiting ≡ None → 0 < length bytes.now → 0 < result }
+    {
+        let start = self.start;
+        remove_front(&mut self.waiting, start);
+        self.start = 0;
+        let pushed = push_bytes(&mut self.waiting, self.tail, bytes);
+        self.tail = pushed.tail;
+        pushed.count
+    }
+
+    /// The first line, which then waits no more, with its line feed; None where none is whole.
+    pub fn take(&mut self) -> Option<LineEvent<'_>>
+        ensures shows { Shows self.old result }
+        ensures* after_borrow { sem 𝓛 (Rests the_row self.entry (LeavesRest self.old)) }
+    {
+        let start = self.start;
+        let unread = self.waiting.len() - start;
+        if unread == self.tail {
+            return None;
+        }
+        let Some(count) = line_at(&self.waiting, start) else {
+            return None;
+        };
+        self.start = start + count + 1;
+        let line = part(&self.waiting, start, count);
+        if line.len() > LONGEST {
+            return Some(LineEvent::TooLong);
+        }
+        Some(LineEvent::Line(line))
+    }
+
+    /// Appends the line of the reply to the output. On Memory all is as before; where the output has
+    /// the capacity for the line it is Ok.
+    pub fn reply(&mut self, id: Option<u64>, version: u64, reply: &Reply) -> Result<(), Memory>
+        ensures ok { OnOk result (self.new.output ≡ self.old.output ++ text id version reply.now) }
+        ensures err { OnErr result (self.new.output ≡ self.old.output) }
+        ensures fits { length self.old.output + length (text id version reply.now) ≤ self.old.capacity → IsOk result }
+        ensures capacity { self.old.capacity ≤ self.new.capacity }
+        ensures waiting { self.new.waiting ≡ self.old.waiting }
+    {
+        print_reply(id, version, reply, &mut self.output)
+    }
+
+    /// Appends the line of a bad form to the output, as `reply` does.
+    pub fn bad(&mut self, id: Option<u64>, version: u64, bad: &BadLine) -> Result<(), Memory>
+        ensures ok { OnOk result (self.new.output ≡ self.old.output ++ text id version (Reply.Bad bad.now)) }
+        ensures err { OnErr result (self.new.output ≡ self.old.output) }
+        ensures fits { length self.old.output + length (text id version (Reply.Bad bad.now)) ≤ self.old.capacity → IsOk result }
+        ensures capacity { self.old.capacity ≤ self.new.capacity }
+        ensures waiting { self.new.waiting ≡ self.old.waiting }
+    {
+        print_bad(id, version, bad, &mut self.output)
+    }
+
+    /// The bytes that are to be sent.
+    pub fn out(&self) -> &[u8]
+        ensures { result.now ≡ self.now.output }
+    {
+        &self.output
+    }
+
+    /// The first n bytes of the output were sent.
+    pub fn sent(&mut self, n: usize)
+        requires { n ≤ length self.old.output }
+        ensures output { self.new.output ≡ drop n self.old.output }
+        ensures capacity { self.new.capacity ≡ self.old.capacity }
+        ensures waiting { self.new.waiting ≡ self.old.waiting }
+    {
+        remove_front(&mut self.output, n);
+    }
+}
