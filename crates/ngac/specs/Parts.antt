@@ -1,21 +1,15 @@
 -- What the parts of a run tell.
-use Rattle.std.specs.Prelude.{◌≡◌, ◌≤◌, ℕ, List, Option, Some, None, Result, Err}
+use Rattle.std.specs.Prelude.{◌≡◌, ◌≤◌, ℕ, List, Option, option_map, Result, Err}
 use Rattle.pm_model.specs.Causes.{Rose}
-use Rattle.pm_model.specs.Lines.{cut, event_of}
 use Rattle.pm_model.specs.Solo.{asked_at}
+use Rattle.pm_session.specs.Taken.{first_event}
 use Rattle.pm_model.specs.declared.requests.Asked.{Asked}
 use Rattle.ngac.specs.declared.lines.Stop.{Stop}
 use Rattle.ngac.specs.declared.lines.Stop.TheVariants.{WriteFault}
 
 -- what the first line asks, where one waits
-abbrev pub IsNextAskedBy : Option (List ℕ × List ℕ) → Option Asked → Type 0
-IsNextAskedBy None None = Unit {0}
-IsNextAskedBy None (Some a) = ⊥
-IsNextAskedBy (Some p) None = ⊥
-IsNextAskedBy (Some p) (Some a) = a ≡ asked_at (event_of p.0)
-
-abbrev pub IsNextAsked : List ℕ → Option Asked → Type 0
-IsNextAsked waiting asked = IsNextAskedBy (cut waiting) asked
+abbrev pub next_asked : List ℕ → Option Asked
+next_asked waiting = option_map asked_at (first_event waiting)
 
 -- a count never falls, and has risen where writing failed
 pub record HasStopCause {T : Type 0} (before now : ℕ) (result : Result T Stop) : Type 0 where

@@ -1,14 +1,14 @@
-// The whole lines that wait are answered, and their replies written.
-ghost use Rattle.std.specs.Prelude.{◌≡◌, ◌≤◌, ◌<◌, ◌++◌, [], Some, None, List, ℕ, length, drop, IfOk, OnOk, OnErr, MatchOption};
+//! The whole lines that wait are answered, and their replies written.
+ghost use Rattle.std.specs.Prelude.{◌≡◌, ◌≤◌, ◌++◌, [], None, Err, length, drop, IfOk, OnOk, OnErr};
 ghost use Rattle.std.specs.Io.KnownBytes.{Appends};
-ghost use Rattle.pm_model.specs.Causes.{HasCause, Rose};
-ghost use Rattle.pm_model.specs.Lines.{cut, event_of};
-ghost use Rattle.pm_model.specs.Solo.{asked_at, answer_what, line_told, replies};
+ghost use Rattle.pm_model.specs.Causes.{HasCause};
+ghost use Rattle.pm_model.specs.Lines.{cut};
+ghost use Rattle.pm_model.specs.Solo.{asked_at, answer_what, line_told};
 ghost use Rattle.pm_model.specs.Answer.{after};
 ghost use Rattle.pm_session.specs.Taken.{shown, rest_of};
-ghost use Rattle.ngac.specs.Wrote.{Wrote, WrotePart};
-ghost use Rattle.ngac.specs.Ahead.{ahead};
-ghost use Rattle.ngac.specs.Parts.{IsNextAsked, HasStopCause};
+ghost use Rattle.ngac.specs.Wrote.{Wrote, WroteWhole, WrotePart};
+ghost use Rattle.ngac.specs.Coming.{coming, ahead};
+ghost use Rattle.ngac.specs.Parts.{next_asked, HasStopCause};
 
 use pm_json::read_request;
 use pm_model::{Asked, BadLine, Failed, LineEvent, Memory, Sink, What};
@@ -76,13 +76,13 @@ fn asked_by(alloc: Global, event: LineEvent) -> Result<Asked, Memory>
         LineEvent::Line(line) => read_request(alloc, line),
         LineEvent::TooLong => Ok(Asked {
             id: None,
-            what: What::Bad(BadLine::NotRequest),
+            what: What::Bad(BadLine::TooLong),
         }),
     }
 }
 
 fn next_asked(alloc: Global, session: &mut Session) -> Result<Option<Asked>, Memory>
-    ensures asked { IfOk result (IsNextAsked session.old.waiting) }
+    ensures asked { IfOk result (λ asked. asked ≡ next_asked session.old.waiting) }
     ensures waiting { session.new.waiting ≡ rest_of session.old.waiting (cut session.old.waiting) }
     ensures output { session.new.output ≡ session.old.output }
 {
@@ -95,16 +95,19 @@ fn next_asked(alloc: Global, session: &mut Session) -> Result<Option<Asked>, Mem
     }
 }
 
-fn answer(session: &mut Session, solo: &mut Solo, asked: &Asked) -> Result<(), Memory>
-    ensures output { OnOk result (session.new.output ≡ session.old.output ++ line_told asked.now.id solo.old (answer_what solo.old asked.now.what)) }
-    ensures state { OnOk result (solo.new ≡ after solo.old (answer_what solo.old asked.now.what)) }
+fn answer(session: &mut Session, solo: &mut Solo, asked: Asked) -> Result<(), Memory>
+    ensures output { OnOk result (session.new.output ≡ session.old.output ++ line_told asked.id solo.old (answer_what solo.old asked.what)) }
+    ensures state { OnOk result (solo.new ≡ after solo.old (answer_what solo.old asked.what)) }
     ensures waiting { session.new.waiting ≡ session.old.waiting }
 {
     match &asked.what {
         What::Bad(bad) => session.bad(asked.id, solo.version(), bad),
         What::Request(request) => {
-            let (reply, version) = solo.ask(request)?;
-            session.reply(asked.id, version, &reply)
+            let (reply, version) = match solo.ask(request) {
+                Ok(told) => told,
+                Err(Memory) => return Err(Memory),
+            };
+            session.reply(asked.id, version, &reply, solo.state().graph())
         }
     }
 }
@@ -130,15 +133,18 @@ pub(crate) fn answer_lines<O: Sink>(
     out: &mut O,
 ) -> Result<(), Stop>
     requires { session.old.output ≡ [] }
-    ensures ok { OnOk result (Wrote (O.taken out.old) (O.taken out.new)
-        (ahead solo.old session.old.waiting) (ahead solo.new session.new.waiting)) }
+    ensures ok { OnOk result (Wrote (O.taken out.old) (O.taken out.new) solo.old solo.new
+        (coming session.old.waiting) (coming session.new.waiting)) }
     ensures drained { OnOk result (cut session.new.waiting ≡ None) }
     ensures sent { OnOk result (session.new.output ≡ []) }
-    ensures err { OnErr result (WrotePart (O.taken out.old) (O.taken out.new) (ahead solo.old session.old.waiting)) }
+    ensures fault { result ≡ Err Stop.WriteFault
+        → WrotePart (O.taken out.old) (O.taken out.new) (ahead solo.old (coming session.old.waiting)) }
+    ensures memory { result ≡ Err Stop.Memory
+        → WroteWhole (O.taken out.old) (O.taken out.new) solo.old (coming session.old.waiting) }
     ensures cause { HasStopCause (O.faults out.old) (O.faults out.new) result }
 {
     while let Some(asked) = next_asked(alloc, session)? {
-        answer(session, solo, &asked)?;
+        answer(session, solo, asked)?;
         send(session, out)?;
     }
     Ok(())

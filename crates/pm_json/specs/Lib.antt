@@ -1,2 +1,5 @@
 pub mod Growth
 pub mod Members
+pub mod Printable
+pub mod Reads
+pub mod Shown

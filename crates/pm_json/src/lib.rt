@@ -1,9 +1,13 @@
 //! Lines of the protocol: what a line asks, and the line of a reply.
 #![tactic(auto)]
 
+mod laws;
 mod print;
 mod put;
 mod read;
+#[cfg(test)]
+mod tests;
 
+pub use laws::{line_has_one_meaning, reply_is_short};
 pub use print::{print_bad, print_reply};
 pub use read::read_request;

@@ -1,13 +1,15 @@
 //! The line of a reply, a function for each row of the table of replies.
-ghost use Rattle.std.specs.Prelude.{◌≡◌, ◌++◌, ◌∷◌, [], ℕ, ◌≤◌, ◌+◌, length, decimal, codes, vec_len, vec_capacity, OnOk, OnErr, IsOk};
-ghost use Rattle.pm_model.specs.Object.{whole_if};
-ghost use Rattle.pm_model.specs.Text.{text, front, bad_front, refusal_front, field_word, table_word, said};
+ghost use Rattle.std.specs.Prelude.{◌≡◌, ◌++◌, ◌∷◌, [], ◌≤◌, ◌+◌, length, decimal, codes, take, vec_len, vec_capacity, IsTrue, OnOk, OnErr, IsOk};
+ghost use Rattle.pm_model.specs.Nameable.{IsNameable, IsReasonNameable, IsRefusalNameable};
+ghost use Rattle.pm_model.specs.Text.{text, bad_text, front, bad_front, no_front, ok_front, unknown_front, full_front, denied_front, capability_front, refusal_front, class_of, field_word, table_word};
 ghost use Rattle.pm_model.specs.Words.{key_text};
 ghost use Rattle.pm_json.specs.Growth.{Appended};
-ghost use Rattle.pm_json.specs.Members.{keyed, trailing_all};
+ghost use Rattle.pm_json.specs.Members.{keyed, trailing, trailing_all};
 
-use crate::put::{put, put_decimal, put_key, put_number_if, put_word};
-use pm_model::{BadLine, Field, Head, Key, Memory, Refusal, Reply, Table, Word};
+use crate::put::{put, put_decimal, put_key, put_name, put_number_if, put_word};
+use pm_model::{
+    BadLine, ElementId, Field, Head, Key, Memory, Name, NameOf, Reason, Refusal, Reply, Table, Word,
+};
 
 fn field_word(field: Field) -> Word
     ensures { result ≡ field_word field }
@@ -17,6 +19,14 @@ fn field_word(field: Field) -> Word
         Field::After => Word::After,
         Field::Proc => Word::Proc,
         Field::Name => Word::Name,
+        Field::Into => Word::Into,
+        Field::From => Word::From,
+        Field::To => Word::To,
+        Field::Ua => Word::Ua,
+        Field::At => Word::At,
+        Field::Target => Word::Target,
+        Field::Right => Word::Right,
+        Field::Rights => Word::Rights,
     }
 }
 
@@ -25,15 +35,26 @@ fn table_word(table: Table) -> Word
 {
     match table {
         Table::Elements => Word::Elements,
+        Table::Assignments => Word::Assignments,
+        Table::Associations => Word::Associations,
+        Table::History => Word::History,
     }
 }
 
 // `id` and `no`.
 fn put_no(out: &mut Vec<u8>, head: &Head, why: Word) -> Result<(), Memory>
-    ensures { Appended out.old out.new (trailing_all ((key_text Key.Id, whole_if head.now.id) ∷ (key_text Key.No, said why) ∷ [])) result }
+    ensures { Appended out.old out.new (trailing_all (no_front head.now why)) result }
 {
     put_number_if(out, Key::Id, head.id)?;
     put_word(out, Key::No, why)
+}
+
+// `id` and `ok`.
+fn put_ok(out: &mut Vec<u8>, head: &Head, what: Word) -> Result<(), Memory>
+    ensures { Appended out.old out.new (trailing_all (ok_front head.now what)) result }
+{
+    put_number_if(out, Key::Id, head.id)?;
+    put_word(out, Key::Ok, what)
 }
 
 fn put_bad_field(out: &mut Vec<u8>, head: &Head, field: Field) -> Result<(), Memory>
@@ -47,6 +68,7 @@ fn put_bad(out: &mut Vec<u8>, head: &Head, bad: &BadLine) -> Result<(), Memory>
     ensures { Appended out.old out.new (trailing_all (bad_front head.now bad.now)) result }
 {
     match bad {
+        BadLine::TooLong => put_no(out, head, Word::TooLong),
         BadLine::NotJson => put_no(out, head, Word::NotJson),
         BadLine::NotRequest => put_no(out, head, Word::NotRequest),
         BadLine::UnknownCommand => put_no(out, head, Word::UnknownCommand),
@@ -54,38 +76,102 @@ fn put_bad(out: &mut Vec<u8>, head: &Head, bad: &BadLine) -> Result<(), Memory>
     }
 }
 
+fn put_unknown_name(out: &mut Vec<u8>, head: &Head, name: &Name) -> Result<(), Memory>
+    ensures { Appended out.old out.new (trailing_all (unknown_front head.now name.now)) result }
+{
+    put_number_if(out, Key::Id, head.id)?;
+    put_name(out, Key::Name, name)?;
+    put_word(out, Key::No, Word::UnknownName)
+}
+
 fn put_full(out: &mut Vec<u8>, head: &Head, table: Table) -> Result<(), Memory>
-    ensures { Appended out.old out.new (trailing_all (refusal_front head.now (Refusal.Full table))) result }
+    ensures { Appended out.old out.new (trailing_all (full_front head.now table)) result }
 {
     put_number_if(out, Key::Id, head.id)?;
     put_word(out, Key::No, Word::Full)?;
     put_word(out, Key::Table, table_word(table))
 }
 
-fn put_refusal(out: &mut Vec<u8>, head: &Head, why: &Refusal) -> Result<(), Memory>
-    ensures { Appended out.old out.new (trailing_all (refusal_front head.now why.now)) result }
+// The class of a denial, where it is one.
+fn put_class<N: NameOf>(out: &mut Vec<u8>, names: &N, reason: Reason) -> Result<(), Memory>
+    requires { IsReasonNameable (N.named names.now) reason }
+    ensures { Appended out.old out.new (trailing (key_text Key.Class) (class_of (N.name_at names.now) reason)) result }
+{
+    match reason {
+        Reason::Class(class) => put_name(out, Key::Class, &names.name_of(class)),
+    }
+}
+
+// What is denied.
+fn put_capability(out: &mut Vec<u8>, right: &Name, target: &Name) -> Result<(), Memory>
+    ensures { Appended out.old out.new (trailing_all (capability_front right.now target.now)) result }
+{
+    put_name(out, Key::Right, right)?;
+    put_name(out, Key::Target, target)
+}
+
+fn put_denied<N: NameOf>(
+    out: &mut Vec<u8>,
+    head: &Head,
+    names: &N,
+    right: &Name,
+    target: ElementId,
+    reason: Reason,
+) -> Result<(), Memory>
+    requires target { IsTrue (N.named names.now target) }
+    requires reason { IsReasonNameable (N.named names.now) reason }
+    ensures { Appended out.old out.new (trailing_all (denied_front head.now (N.name_at names.now) right.now target reason)) result }
+{
+    put_class(out, names, reason)?;
+    put_number_if(out, Key::Id, head.id)?;
+    put_word(out, Key::No, Word::Denied)?;
+    put_capability(out, right, &names.name_of(target))
+}
+
+fn put_refusal<N: NameOf>(
+    out: &mut Vec<u8>,
+    head: &Head,
+    names: &N,
+    why: &Refusal,
+) -> Result<(), Memory>
+    requires { IsRefusalNameable (N.named names.now) why.now }
+    ensures { Appended out.old out.new (trailing_all (refusal_front head.now (N.name_at names.now) why.now)) result }
 {
     match why {
         Refusal::UnknownProcess => put_no(out, head, Word::UnknownProcess),
+        Refusal::UnknownName { name } => put_unknown_name(out, head, name),
+        Refusal::Denied {
+            right,
+            target,
+            reason,
+        } => put_denied(out, head, names, right, *target, *reason),
+        Refusal::BadKinds => put_no(out, head, Word::BadKinds),
         Refusal::NameTaken => put_no(out, head, Word::NameTaken),
+        Refusal::Already => put_no(out, head, Word::Already),
+        Refusal::Absent => put_no(out, head, Word::Absent),
+        Refusal::Cycle => put_no(out, head, Word::Cycle),
+        Refusal::Occupied => put_no(out, head, Word::Occupied),
+        Refusal::LastContainer => put_no(out, head, Word::LastContainer),
+        Refusal::Builtin => put_no(out, head, Word::Builtin),
         Refusal::Full(table) => put_full(out, head, *table),
     }
 }
 
-fn put_done(out: &mut Vec<u8>, head: &Head) -> Result<(), Memory>
-    ensures { Appended out.old out.new (trailing_all (front head.now Reply.Done)) result }
-{
-    put_number_if(out, Key::Id, head.id)?;
-    put_word(out, Key::Ok, Word::Done)
-}
-
-fn put_front(out: &mut Vec<u8>, head: &Head, reply: &Reply) -> Result<(), Memory>
-    ensures { Appended out.old out.new (trailing_all (front head.now reply.now)) result }
+fn put_front<N: NameOf>(
+    out: &mut Vec<u8>,
+    head: &Head,
+    names: &N,
+    reply: &Reply,
+) -> Result<(), Memory>
+    requires { IsNameable (N.named names.now) reply.now }
+    ensures { Appended out.old out.new (trailing_all (front head.now (N.name_at names.now) reply.now)) result }
 {
     match reply {
-        Reply::Done => put_done(out, head),
+        Reply::Done => put_ok(out, head, Word::Done),
+        Reply::Granted => put_ok(out, head, Word::Granted),
         Reply::Bad(bad) => put_bad(out, head, bad),
-        Reply::Refused(why) => put_refusal(out, head, why),
+        Reply::Ahead => put_no(out, head, Word::Ahead),
+        Reply::Refused(why) => put_refusal(out, head, names, why),
     }
 }
 
@@ -97,52 +183,104 @@ fn put_version(out: &mut Vec<u8>, version: u64) -> Result<(), Memory>
     put(out, b"}\n")
 }
 
-fn put_line_parts(out: &mut Vec<u8>, head: &Head, version: u64, reply: &Reply) -> Result<(), Memory>
-    ensures { Appended out.old out.new (codes "{" ++ (trailing_all (front head.now reply.now) ++ (keyed (key_text Key.V) ++ (decimal version ++ codes "}\n")))) result }
+fn put_line_parts<N: NameOf>(
+    out: &mut Vec<u8>,
+    head: &Head,
+    version: u64,
+    names: &N,
+    reply: &Reply,
+) -> Result<(), Memory>
+    requires { IsNameable (N.named names.now) reply.now }
+    ensures { Appended out.old out.new (codes "{" ++ (trailing_all (front head.now (N.name_at names.now) reply.now) ++ (keyed (key_text Key.V) ++ (decimal version ++ codes "}\n")))) result }
 {
     put(out, b"{")?;
-    put_front(out, head, reply)?;
+    put_front(out, head, names, reply)?;
     put_version(out, version)
 }
 
-fn put_line(out: &mut Vec<u8>, id: Option<u64>, version: u64, reply: &Reply) -> Result<(), Memory>
-    ensures { Appended out.old out.new (text id version reply.now) result }
-{
-    put_line_parts(out, &Head { id }, version, reply)
-}
-
-/// Appends the line of the reply, its line feed included. On Memory `out` is as before; with room
-/// for the line it is Ok.
-pub fn print_reply(
+fn put_line<N: NameOf>(
+    out: &mut Vec<u8>,
     id: Option<u64>,
     version: u64,
+    names: &N,
     reply: &Reply,
-    out: &mut Vec<u8>,
 ) -> Result<(), Memory>
-    ensures ok { OnOk result (out.new.items ≡ out.old.items ++ text id version reply.now) }
-    ensures err { OnErr result (out.new.items ≡ out.old.items) }
-    ensures room { vec_len out.old + length (text id version reply.now) ≤ vec_capacity out.old → IsOk result }
-    ensures capacity { vec_capacity out.old ≤ vec_capacity out.new }
+    requires { IsNameable (N.named names.now) reply.now }
+    ensures { Appended out.old out.new (text id version (N.name_at names.now) reply.now) result }
 {
-    let before = out.len();
-    let written = put_line(out, id, version, reply);
+    put_line_parts(out, &Head { id }, version, names, reply)
+}
+
+fn put_bad_parts(out: &mut Vec<u8>, head: &Head, version: u64, bad: &BadLine) -> Result<(), Memory>
+    ensures { Appended out.old out.new (codes "{" ++ (trailing_all (bad_front head.now bad.now) ++ (keyed (key_text Key.V) ++ (decimal version ++ codes "}\n")))) result }
+{
+    put(out, b"{")?;
+    put_bad(out, head, bad)?;
+    put_version(out, version)
+}
+
+fn put_bad_line(
+    out: &mut Vec<u8>,
+    id: Option<u64>,
+    version: u64,
+    bad: &BadLine,
+) -> Result<(), Memory>
+    ensures { Appended out.old out.new (bad_text id version bad.now) result }
+{
+    put_bad_parts(out, &Head { id }, version, bad)
+}
+
+// Takes back what a write that failed has left behind the first bytes.
+fn whole_or_none(
+    out: &mut Vec<u8>,
+    before: usize,
+    written: Result<(), Memory>,
+) -> Result<(), Memory>
+    requires { before ≤ vec_len out.old }
+    ensures same { result ≡ written }
+    ensures ok { OnOk result (out.new.items ≡ out.old.items) }
+    ensures err { OnErr result (out.new.items ≡ take before out.old.items) }
+    ensures capacity { vec_capacity out.new ≡ vec_capacity out.old }
+{
     if written.is_err() {
         out.truncate(before);
     }
     written
 }
 
-/// Appends the line of a bad form, as `print_reply` does.
+/// Appends the line of the reply, its line feed included. On Memory `out` is as before; with room
+/// for the line it is Ok. `names` is asked for each element that the reply tells by its number.
+pub fn print_reply<N: NameOf>(
+    id: Option<u64>,
+    version: u64,
+    reply: &Reply,
+    names: &N,
+    out: &mut Vec<u8>,
+) -> Result<(), Memory>
+    requires { IsNameable (N.named names.now) reply.now }
+    ensures ok { OnOk result (out.new.items ≡ out.old.items ++ text id version (N.name_at names.now) reply.now) }
+    ensures err { OnErr result (out.new.items ≡ out.old.items) }
+    ensures room { vec_len out.old + length (text id version (N.name_at names.now) reply.now) ≤ vec_capacity out.old → IsOk result }
+    ensures capacity { vec_capacity out.old ≤ vec_capacity out.new }
+{
+    let before = out.len();
+    let written = put_line(out, id, version, names, reply);
+    whole_or_none(out, before, written)
+}
+
+/// Appends the line of a bad form, as `print_reply` does. It names no element.
 pub fn print_bad(
     id: Option<u64>,
     version: u64,
     bad: &BadLine,
     out: &mut Vec<u8>,
 ) -> Result<(), Memory>
-    ensures ok { OnOk result (out.new.items ≡ out.old.items ++ text id version (Reply.Bad bad.now)) }
+    ensures ok { OnOk result (out.new.items ≡ out.old.items ++ bad_text id version bad.now) }
     ensures err { OnErr result (out.new.items ≡ out.old.items) }
-    ensures room { vec_len out.old + length (text id version (Reply.Bad bad.now)) ≤ vec_capacity out.old → IsOk result }
+    ensures room { vec_len out.old + length (bad_text id version bad.now) ≤ vec_capacity out.old → IsOk result }
     ensures capacity { vec_capacity out.old ≤ vec_capacity out.new }
 {
-    print_reply(id, version, &Reply::Bad(*bad), out)
+    let before = out.len();
+    let written = put_bad_line(out, id, version, bad);
+    whole_or_none(out, before, written)
 }

@@ -10,7 +10,7 @@ ghost use Rattle.pm_json.specs.Growth.{Appended};
 ghost use Rattle.pm_json.specs.Members.{keyed, trailing};
 
 use itoa::Buffer;
-use pm_model::{Key, Memory, Word};
+use pm_model::{Key, Memory, Name, Word};
 
 /// Appends the bytes.
 pub(crate) fn put(out: &mut Vec<u8>, text: &[u8]) -> Result<(), Memory>
@@ -74,12 +74,27 @@ pub(crate) fn put_number_if(out: &mut Vec<u8>, key: Key, n: Option<u64>) -> Resu
     }
 }
 
-/// Appends a member that is a fixed text, and a comma.
+/// Appends a member that is a text with no escape, and a comma.
 #[tactic(auto, unfolding(crate::specs::Members::trailing))]
+fn put_text(out: &mut Vec<u8>, key: Key, text: &[u8]) -> Result<(), Memory>
+    requires { list_all is_name_byte text.now ≡ true }
+    ensures { Appended out.old out.new (trailing (key_text key) (texted text.now)) result }
+{
+    put_key(out, key)?;
+    put_quoted(out, text)?;
+    put(out, b",")
+}
+
+/// Appends a member that is a fixed text, and a comma.
 pub(crate) fn put_word(out: &mut Vec<u8>, key: Key, word: Word) -> Result<(), Memory>
     ensures { Appended out.old out.new (trailing (key_text key) (said word)) result }
 {
-    put_key(out, key)?;
-    put_quoted(out, word.text().as_bytes())?;
-    put(out, b",")
+    put_text(out, key, word.text().as_bytes())
+}
+
+/// Appends a member that is a name, and a comma.
+pub(crate) fn put_name(out: &mut Vec<u8>, key: Key, name: &Name) -> Result<(), Memory>
+    ensures { Appended out.old out.new (trailing (key_text key) (texted name.now)) result }
+{
+    put_text(out, key, name.bytes())
 }

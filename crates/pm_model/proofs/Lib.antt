@@ -1,0 +1,2 @@
+pub mod ContainmentLaws
+pub mod Walks

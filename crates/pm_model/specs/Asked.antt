@@ -1,10 +1,11 @@
 -- What a line asks, by a look-up of its members. JSON itself is serde_json's word `read`; the forms and their order are
 -- the project's own.
-use Rattle.std.specs.Prelude.{ℕ, ◌^◌, List, Bool, if◌then◌else◌, nat_lt, bytes_eq, Option, None, Some, option_and_then, Result, Ok, Err}
+use Rattle.std.specs.Prelude.{ℕ, ◌^◌, List, [], ◌∷◌, ◌++◌, ◌&&◌, if◌then◌else◌, nat_lt, nat_le, length, bytes_eq, Option, None, Some, option_and_then, option_map, Result, Ok, Err}
+use Rattle.std.specs.List.{list_any}
 use Rattle.std.specs.Str.{is_utf8}
-use Rattle.serde_json.specs.Data.{Data}
+use Rattle.serde_json.specs.Data.{Data, Items, no_items, item}
 use Rattle.serde_json.specs.Read.{read}
-use Rattle.serde_json.specs.Find.{get, as_str, as_number, as_u64}
+use Rattle.serde_json.specs.Find.{get, as_str, as_number, as_u64, as_array}
 use Rattle.pm_model.specs.Name.{is_name}
 use Rattle.pm_model.specs.Results.{and_then}
 use Rattle.pm_model.specs.Words.{key_text, word_text}
@@ -15,10 +16,12 @@ use Rattle.pm_model.specs.declared.lines.BadLine.{BadLine}
 use Rattle.pm_model.specs.declared.lines.BadLine.TheVariants.{NotJson, NotRequest, UnknownCommand, BadField}
 use Rattle.pm_model.specs.declared.lines.Field.{Field}
 use Rattle.pm_model.specs.declared.lines.Field.TheVariants as field
+use Rattle.pm_model.specs.declared.elements.Kind.{Kind}
+use Rattle.pm_model.specs.declared.elements.Kind.TheVariants.{User, Ua, Object, Oa}
 use Rattle.pm_model.specs.declared.requests.Command.{Command}
-use Rattle.pm_model.specs.declared.requests.Command.TheVariants.{CreatePc}
+use Rattle.pm_model.specs.declared.requests.Command.TheVariants.{CreatePc, Create, Assign, Deassign, Associate, Dissociate}
 use Rattle.pm_model.specs.declared.requests.Body.{Body}
-use Rattle.pm_model.specs.declared.requests.Body.TheVariants.{Admin}
+use Rattle.pm_model.specs.declared.requests.Body.TheVariants.{Version, Access, Admin}
 use Rattle.pm_model.specs.declared.requests.Request.{Request}
 use Rattle.pm_model.specs.declared.requests.What.{What}
 use Rattle.pm_model.specs.declared.requests.What.TheVariants as what
@@ -44,6 +47,23 @@ if_short n = if nat_lt n (2 ^ 32) then Some n else None
 abbrev pub short_form : Data → Option ℕ
 short_form d = option_and_then if_short (whole_form d)
 
+-- a list of names
+abbrev pub names_of : Items → Option (List (List ℕ))
+names_of no_items = Some []
+names_of (item d ds) = option_and_then (λ n. option_map (λ ns. n ∷ ns) (names_of ds)) (name_form d)
+
+-- a list without its repeats, behind the names that were seen
+abbrev pub unlike : List (List ℕ) → List (List ℕ) → List (List ℕ)
+unlike seen [] = []
+unlike seen (n ∷ ns) = if list_any (bytes_eq n) seen then unlike seen ns else n ∷ unlike (seen ++ n ∷ []) ns
+
+abbrev pub if_some_few : List (List ℕ) → Option (List (List ℕ))
+if_some_few ns = if nat_lt 0 (length ns) && nat_le (length ns) 32 then Some (unlike [] ns) else None
+
+-- a list of 1 to 32 names, read as a set: its repeats count towards the 32 and are left out
+abbrev pub rights_form : Data → Option (List (List ℕ))
+rights_form d = option_and_then if_some_few (option_and_then names_of (as_array d))
+
 -- ---- fields
 
 abbrev pub required : {A : Type 0} → Field → Option A → Result A BadLine
@@ -54,11 +74,6 @@ required f (Some a) = Ok a
 abbrev pub optional : {A : Type 0} → Field → Option Data → (Data → Option A) → Result (Option A) BadLine
 optional f None form = Ok None
 optional f (Some d) form = and_then (required f (form d)) (λ a. Ok (Some a))
-
--- the member is absent
-abbrev pub absent : Field → Option Data → Result (Option ℕ) BadLine
-absent f None = Ok None
-absent f (Some d) = Err (BadField f)
 
 -- ---- lines, by what stands at each key of the line's object
 
@@ -72,18 +87,64 @@ module _ (look : List ℕ → Option Data) where
   abbrev pub create_pc_of : Result Command BadLine
   create_pc_of = and_then (name_at field.Name key.Name) (λ name. Ok (CreatePc name))
 
+  abbrev pub create_of : Kind → Result Command BadLine
+  create_of kind =
+      and_then (name_at field.Name key.Name) (λ name.
+      and_then (name_at field.Into key.Into) (λ into. Ok (Create kind name into)))
+
+  -- the fields `from` and `to`
+  abbrev pub ends_of : Result (List ℕ × List ℕ) BadLine
+  ends_of =
+      and_then (name_at field.From key.From) (λ from.
+      and_then (name_at field.To key.To) (λ to. Ok (from, to)))
+
+  abbrev pub assign_of : Result Command BadLine
+  assign_of = and_then ends_of (λ ends. Ok (Assign ends.0 ends.1))
+
+  abbrev pub deassign_of : Result Command BadLine
+  deassign_of = and_then ends_of (λ ends. Ok (Deassign ends.0 ends.1))
+
+  abbrev pub associate_of : Result Command BadLine
+  associate_of =
+      and_then (name_at field.Ua key.Ua) (λ ua.
+      and_then (required field.Rights (option_and_then rights_form (look (key_text key.Rights)))) (λ rights.
+      and_then (name_at field.At key.At) (λ at. Ok (Associate ua rights at))))
+
+  abbrev pub dissociate_of : Result Command BadLine
+  dissociate_of =
+      and_then (name_at field.Ua key.Ua) (λ ua.
+      and_then (name_at field.At key.At) (λ at. Ok (Dissociate ua at)))
+
+  abbrev pub access_of : Result Body BadLine
+  access_of =
+      and_then process_of (λ process.
+      and_then (name_at field.Right key.Right) (λ right.
+      and_then (name_at field.Target key.Target) (λ target. Ok (Access process right target))))
+
   abbrev pub admin_of : Result Command BadLine → Result Body BadLine
   admin_of command = and_then process_of (λ process. and_then command (λ c. Ok (Admin process c)))
 
   -- the row of the word, where it is a command's
   abbrev pub row_of : List ℕ → Option (Result Body BadLine)
-  row_of w = if bytes_eq w (word_text word.CreatePc) then Some (admin_of create_pc_of) else None
+  row_of w =
+      if bytes_eq w (word_text word.Version) then Some (Ok Version)
+      else (if bytes_eq w (word_text word.CreatePc) then Some (admin_of create_pc_of)
+      else (if bytes_eq w (word_text word.CreateUser) then Some (admin_of (create_of User))
+      else (if bytes_eq w (word_text word.CreateUa) then Some (admin_of (create_of Ua))
+      else (if bytes_eq w (word_text word.CreateOa) then Some (admin_of (create_of Oa))
+      else (if bytes_eq w (word_text word.CreateObject) then Some (admin_of (create_of Object))
+      else (if bytes_eq w (word_text word.Assign) then Some (admin_of assign_of)
+      else (if bytes_eq w (word_text word.Deassign) then Some (admin_of deassign_of)
+      else (if bytes_eq w (word_text word.Associate) then Some (admin_of associate_of)
+      else (if bytes_eq w (word_text word.Dissociate) then Some (admin_of dissociate_of)
+      else (if bytes_eq w (word_text word.Access) then Some access_of
+      else None))))))))))
 
   -- `id`, `after`, then the fields of the row
   abbrev pub with_head : Result Body BadLine → Result Request BadLine
   with_head row =
       and_then (optional field.Id (look (key_text key.Id)) whole_form) (λ id.
-      and_then (absent field.After (look (key_text key.After))) (λ after.
+      and_then (optional field.After (look (key_text key.After)) whole_form) (λ after.
       and_then row (λ body. Ok (record { after = after; body = body }))))
 
   abbrev pub rowed : Option (Result Body BadLine) → Result Request BadLine
@@ -100,13 +161,9 @@ module _ (look : List ℕ → Option Data) where
   abbrev pub id_of : Option ℕ
   id_of = option_and_then whole_form (look (key_text key.Id))
 
--- for a time one bad form stands for all
-abbrev pub bad_form : BadLine → BadLine
-bad_form bad = NotRequest
-
 abbrev pub what_of : Result Request BadLine → What
 what_of (Ok request) = what.Request request
-what_of (Err bad) = what.Bad (bad_form bad)
+what_of (Err bad) = what.Bad bad
 
 abbrev pub asked_by : (List ℕ → Option Data) → Asked
 asked_by look = record { id = id_of look; what = what_of (request_of look) }
@@ -116,7 +173,7 @@ abbrev pub looking : Data → List ℕ → Option Data
 looking d k = get k d
 
 abbrev pub asked_of : Option Data → Asked
-asked_of None = record { id = None; what = what.Bad (bad_form NotJson) }
+asked_of None = record { id = None; what = what.Bad NotJson }
 asked_of (Some d) = asked_by (looking d)
 
 abbrev pub asked : List ℕ → Asked

@@ -8,24 +8,37 @@ use Rattle.pm_model.specs.declared.words.Word.{Word}
 use Rattle.pm_model.specs.declared.words.Word.TheVariants as word
 use Rattle.pm_model.specs.declared.lines.Head.{Head}
 use Rattle.pm_model.specs.declared.lines.BadLine.{BadLine}
-use Rattle.pm_model.specs.declared.lines.BadLine.TheVariants.{NotJson, NotRequest, UnknownCommand, BadField}
+use Rattle.pm_model.specs.declared.lines.BadLine.TheVariants.{TooLong, NotJson, NotRequest, UnknownCommand, BadField}
 use Rattle.pm_model.specs.declared.lines.Field.{Field}
 use Rattle.pm_model.specs.declared.lines.Field.TheVariants as field
 use Rattle.pm_model.specs.declared.replies.Refusal.{Refusal}
-use Rattle.pm_model.specs.declared.replies.Refusal.TheVariants.{UnknownProcess, NameTaken, Full}
+use Rattle.pm_model.specs.declared.replies.Refusal.TheVariants as refusal
 use Rattle.pm_model.specs.declared.replies.Table.{Table}
-use Rattle.pm_model.specs.declared.replies.Table.TheVariants.{Elements}
+use Rattle.pm_model.specs.declared.replies.Table.TheVariants.{Elements, Assignments, Associations, History}
 use Rattle.pm_model.specs.declared.replies.Reply.{Reply}
-use Rattle.pm_model.specs.declared.replies.Reply.TheVariants.{Done, Bad, Refused}
+use Rattle.pm_model.specs.declared.replies.Reply.TheVariants.{Done, Granted, Bad, Ahead, Refused}
+use Rattle.pm_model.specs.declared.replies.Reason.{Reason}
+use Rattle.pm_model.specs.declared.replies.Reason.TheVariants.{Class}
 
 abbrev pub field_word : Field → Word
 field_word field.Id = word.Id
 field_word field.After = word.After
 field_word field.Proc = word.Proc
 field_word field.Name = word.Name
+field_word field.Into = word.Into
+field_word field.From = word.From
+field_word field.To = word.To
+field_word field.Ua = word.Ua
+field_word field.At = word.At
+field_word field.Target = word.Target
+field_word field.Right = word.Right
+field_word field.Rights = word.Rights
 
 abbrev pub table_word : Table → Word
 table_word Elements = word.Elements
+table_word Assignments = word.Assignments
+table_word Associations = word.Associations
+table_word History = word.History
 
 -- a fixed text
 abbrev pub said : Word → Option Data
@@ -33,25 +46,69 @@ said w = texted (word_text w)
 
 -- the members before `v`, in alphabetical order
 
+-- a refusal that says no more than its word
+abbrev pub no_front : Head → Word → List (List ℕ × Option Data)
+no_front h why = (key_text key.Id, whole_if h.id) ∷ (key_text key.No, said why) ∷ []
+
 abbrev pub bad_front : Head → BadLine → List (List ℕ × Option Data)
-bad_front h NotJson = (key_text key.Id, whole_if h.id) ∷ (key_text key.No, said word.NotJson) ∷ []
-bad_front h NotRequest = (key_text key.Id, whole_if h.id) ∷ (key_text key.No, said word.NotRequest) ∷ []
-bad_front h UnknownCommand = (key_text key.Id, whole_if h.id) ∷ (key_text key.No, said word.UnknownCommand) ∷ []
-bad_front h (BadField f) = (key_text key.Field, said (field_word f)) ∷ (key_text key.Id, whole_if h.id) ∷ (key_text key.No, said word.BadField) ∷ []
+bad_front h TooLong = no_front h word.TooLong
+bad_front h NotJson = no_front h word.NotJson
+bad_front h NotRequest = no_front h word.NotRequest
+bad_front h UnknownCommand = no_front h word.UnknownCommand
+bad_front h (BadField f) = (key_text key.Field, said (field_word f)) ∷ no_front h word.BadField
 
-abbrev pub refusal_front : Head → Refusal → List (List ℕ × Option Data)
-refusal_front h UnknownProcess = (key_text key.Id, whole_if h.id) ∷ (key_text key.No, said word.UnknownProcess) ∷ []
-refusal_front h NameTaken = (key_text key.Id, whole_if h.id) ∷ (key_text key.No, said word.NameTaken) ∷ []
-refusal_front h (Full table) = (key_text key.Id, whole_if h.id) ∷ (key_text key.No, said word.Full) ∷ (key_text key.Table, said (table_word table)) ∷ []
+-- a request that is accepted or granted
+abbrev pub ok_front : Head → Word → List (List ℕ × Option Data)
+ok_front h what = (key_text key.Id, whole_if h.id) ∷ (key_text key.Ok, said what) ∷ []
 
-abbrev pub front : Head → Reply → List (List ℕ × Option Data)
-front h Done = (key_text key.Id, whole_if h.id) ∷ (key_text key.Ok, said word.Done) ∷ []
-front h (Bad bad) = bad_front h bad
-front h (Refused why) = refusal_front h why
+abbrev pub unknown_front : Head → List ℕ → List (List ℕ × Option Data)
+unknown_front h name = (key_text key.Id, whole_if h.id) ∷ (key_text key.Name, texted name) ∷ (key_text key.No, said word.UnknownName) ∷ []
 
-abbrev pub fields : Head → ℕ → Reply → List (List ℕ × Option Data)
-fields h v reply = front h reply ++ (key_text key.V, whole v) ∷ []
+abbrev pub full_front : Head → Table → List (List ℕ × Option Data)
+full_front h table = (key_text key.Id, whole_if h.id) ∷ (key_text key.No, said word.Full) ∷ (key_text key.Table, said (table_word table)) ∷ []
 
--- the reply to a line with this id, at this version
-abbrev pub text : Option ℕ → ℕ → Reply → List ℕ
-text id v reply = line_of (fields (record { id = id }) v reply)
+-- the class of a denial, where it is one
+abbrev pub class_of : (ℕ → List ℕ) → Reason → Option Data
+class_of names (Class pc) = texted (names pc)
+
+-- what is denied
+abbrev pub capability_front : List ℕ → List ℕ → List (List ℕ × Option Data)
+capability_front right target = (key_text key.Right, texted right) ∷ (key_text key.Target, texted target) ∷ []
+
+abbrev pub denied_front : Head → (ℕ → List ℕ) → List ℕ → ℕ → Reason → List (List ℕ × Option Data)
+denied_front h names right target reason =
+    (key_text key.Class, class_of names reason) ∷ (key_text key.Id, whole_if h.id) ∷ (key_text key.No, said word.Denied)
+    ∷ capability_front right (names target)
+
+abbrev pub refusal_front : Head → (ℕ → List ℕ) → Refusal → List (List ℕ × Option Data)
+refusal_front h names refusal.UnknownProcess = no_front h word.UnknownProcess
+refusal_front h names (refusal.UnknownName name) = unknown_front h name
+refusal_front h names (refusal.Denied right target reason) = denied_front h names right target reason
+refusal_front h names refusal.BadKinds = no_front h word.BadKinds
+refusal_front h names refusal.NameTaken = no_front h word.NameTaken
+refusal_front h names refusal.Already = no_front h word.Already
+refusal_front h names refusal.Absent = no_front h word.Absent
+refusal_front h names refusal.Cycle = no_front h word.Cycle
+refusal_front h names refusal.Occupied = no_front h word.Occupied
+refusal_front h names refusal.LastContainer = no_front h word.LastContainer
+refusal_front h names refusal.Builtin = no_front h word.Builtin
+refusal_front h names (refusal.Full table) = full_front h table
+
+abbrev pub front : Head → (ℕ → List ℕ) → Reply → List (List ℕ × Option Data)
+front h names Done = ok_front h word.Done
+front h names Granted = ok_front h word.Granted
+front h names (Bad bad) = bad_front h bad
+front h names Ahead = no_front h word.Ahead
+front h names (Refused why) = refusal_front h names why
+
+-- the version comes last
+abbrev pub with_version : ℕ → List (List ℕ × Option Data) → List (List ℕ × Option Data)
+with_version v members = members ++ (key_text key.V, whole v) ∷ []
+
+-- the reply to a line with this id, at this version, where elements have these names
+abbrev pub text : Option ℕ → ℕ → (ℕ → List ℕ) → Reply → List ℕ
+text id v names reply = line_of (with_version v (front (record { id = id }) names reply))
+
+-- the reply to a bad form, whatever names elements have
+abbrev pub bad_text : Option ℕ → ℕ → BadLine → List ℕ
+bad_text id v bad = line_of (with_version v (bad_front (record { id = id }) bad))

@@ -1,3 +1,5 @@
+ghost use Rattle.std.specs.Prelude.{◌≡◌};
+
 use crate::names::Name;
 use std::marker::Model;
 
@@ -13,6 +15,15 @@ impl Model for ElementId {
     ghost view = { λ e. e.0 };
 
     ghost inverse = { λ n. record { 0 = n } };
+}
+
+impl ElementId {
+    /// The number itself.
+    pub fn number(self) -> u32
+        ensures { result ≡ self }
+    {
+        self.0
+    }
 }
 
 /// What an element is: a user, a user attribute, an object, an object attribute or a policy class.

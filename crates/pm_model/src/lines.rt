@@ -5,11 +5,21 @@ pub enum Field {
     After,
     Proc,
     Name,
+    Into,
+    From,
+    To,
+    Ua,
+    At,
+    Target,
+    Right,
+    Rights,
 }
 
 /// Why a line is no request.
 #[derive(Clone, Copy, Debug, PartialEq, Eq)]
 pub enum BadLine {
+    /// It has more than 8,192 bytes.
+    TooLong,
     /// No JSON value is read from it.
     NotJson,
     /// Its value is no object with a text under `cmd`.

@@ -31,6 +31,10 @@ impl Model for Name {
 }
 
 impl Clone for Name {
+    ghost use Rattle.std.specs.Prelude.{◌≡◌};
+
+    ghost is_clone = { λ n same. same ≡ n };
+
     fn clone(&self) -> Result<Name, std::alloc::AllocError> {
         Ok(*self)
     }

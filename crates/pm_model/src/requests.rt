@@ -1,30 +1,90 @@
 use crate::elements::{ElementId, Kind};
 use crate::lines::BadLine;
+use crate::lists::NameList;
 use crate::names::Name;
+use crate::rights::Rights;
 
 /// An administrative command, as a line names it.
 #[derive(Drop)]
 pub enum Command {
     /// Make a policy class of this name.
-    CreatePc { name: Name },
+    CreatePc {
+        name: Name,
+    },
+    /// Make an element of this kind and name in a container. The kind isn't `Pc`.
+    Create {
+        kind: Kind,
+        name: Name,
+        into: Name,
+    },
+    /// Assign one element to another.
+    Assign {
+        from: Name,
+        to: Name,
+    },
+    /// Take an assignment away.
+    Deassign {
+        from: Name,
+        to: Name,
+    },
+    /// Give the users in a user attribute these rights on what is in an attribute or object.
+    Associate {
+        ua: Name,
+        rights: NameList,
+        at: Name,
+    },
+    /// Take the association of a pair away.
+    Dissociate {
+        ua: Name,
+        at: Name,
+    },
 }
 
 /// A command with its names resolved to numbers.
 #[derive(Drop)]
 pub enum Change {
-    /// Make an element of this number, kind and name.
+    /// Make the element of this number, with its assignment to the container, where there is one.
     Create {
         id: ElementId,
         kind: Kind,
         name: Name,
+        into: Option<ElementId>,
+    },
+    Assign {
+        from: ElementId,
+        to: ElementId,
+    },
+    Deassign {
+        from: ElementId,
+        to: ElementId,
+    },
+    Associate {
+        ua: ElementId,
+        rights: Rights,
+        at: ElementId,
+    },
+    Dissociate {
+        ua: ElementId,
+        at: ElementId,
     },
 }
 
 /// What a request asks for.
 #[derive(Drop)]
 pub enum Body {
+    /// The version, and nothing else.
+    Version,
+    /// An access by a process, for the user whose process it is: an access right on a target.
+    Access {
+        process: u32,
+        right: Name,
+        target: Name,
+    },
     /// A command by a process, for the user whose process it is.
-    Admin { process: u32, command: Command },
+    Admin {
+        process: u32,
+        command: Command,
+    },
 }
 
 /// A request: what is asked, and the version that the machine must have reached, where one is given.

@@ -1,3 +1,10 @@
+pub mod Feeds
+pub mod FirstLine
+pub mod Fitting
+pub mod InPieces
+pub mod Kept
 pub mod LineLaws
+pub mod OpenLine
 pub mod Pushing
 pub mod Taking
+pub mod WholeLines

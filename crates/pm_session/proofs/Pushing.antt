@@ -1,78 +1,110 @@
--- A loop that takes bytes one at a time.
-use Rattle.std.proofs.Common.{◌≡◌, ◌≤◌, ◌<◌, ◌+◌, ◌-◌, ◌==◌, false, ℕ, List, [], ◌∷◌, ◌++◌, take, replicate, length, arith, ap, sym, ◌∙◌, append_assoc, length-append, length-take}
-use Rattle.std.specs.Prelude.{Vec, vec_capacity}
-use Rattle.std.specs.declared.alloc.Global.{Global}
-use Rattle.std.proofs.lemmas.List.{take_all}
-use Rattle.pm_model.specs.Lines.{shape, blank_line}
-use Rattle.pm_session.specs.Cuts.{open_line}
-use Rattle.pm_session.proofs.LineLaws.{shape-shape-append, shape-shape, shape-push-feed, shape-push-short, shape-push-long, shape-push-past, open_line-push-feed, open_line-push, open_line-push-long, length-blank_line}
-use Rattle.pm_session.specs.Waiting.{IsWaiting}
+-- Bytes that go in behind those that wait.
+use Rattle.std.proofs.Common.{◌≡◌, ◌<◌, ◌≤◌, ◌+◌, ◌-◌, ℕ, List, [], ◌∷◌, ◌++◌, length, take, drop, replicate, sym, arith, ap, ◌∙◌, append_assoc, length-append, length-take, length-drop, append-nil}
+use Rattle.std.proofs.lemmas.List.{take_all, take_at, take-append-drop}
+use Rattle.pm_model.specs.Lines.{fit, shape, blank_line}
+use Rattle.pm_session.specs.Cuts.{HasNoFeed, IsCut, open_line}
+use Rattle.pm_session.specs.Waiting.{IsWaiting, HasPushed}
+use Rattle.pm_session.proofs.Fitting.{fit-short, fit-long, length-blank_line}
+use Rattle.pm_session.proofs.Kept.{shape-shape-append, shape-shape}
+use Rattle.pm_session.proofs.OpenLine.{open_line-append, open_line-feed, open_line-shape, length-open_line, shape-append-short, shape-append-long, shape-append-feed}
 
--- these bytes have gone in
-pub record HasPushed (old new : Vec ℕ Global) (tail : ℕ) (bytes : List ℕ) : Type 0 where
-  pub shaped : new.items ≡ shape (old.items ++ bytes)
-  pub kept : IsWaiting new.items tail
-  pub short : length new.items ≤ length old.items + length bytes
-  pub within : length new.items ≤ 16384
-  pub capacity : vec_capacity old ≤ vec_capacity new
+-- the open line is no longer than what waits
+pub IsWaiting-tail : (bytes : List ℕ) (tail : ℕ) → IsWaiting bytes tail → tail ≤ length bytes
+IsWaiting-tail bytes tail waits = let o = waits.opened in let l = length-open_line bytes in omega arith
 
-pub HasPushed-more : (old now new : Vec ℕ Global) (tail after : ℕ) (bytes : List ℕ) (c : ℕ)
-    → HasPushed old now tail bytes → length now.items < 16384
-    → new.items ≡ shape (now.items ++ c ∷ []) → IsWaiting new.items after → length new.items ≤ length now.items + 1
-    → vec_capacity now ≤ vec_capacity new
-    → HasPushed old new after (bytes ++ c ∷ [])
-HasPushed-more old now new tail after bytes c h room shaped kept short capacity =
-    let e = h.shaped in
-    let l = length-append bytes (c ∷ []) in
+-- what is kept of bytes waits
+IsWaiting-shape : (bytes new : List ℕ) (tail : ℕ) → new ≡ shape bytes → length (fit (open_line bytes)) ≡ tail → IsWaiting new tail
+IsWaiting-shape bytes new tail is opened =
+    rw is (record { shaped = shape-shape bytes; opened = ap length (open_line-shape bytes) ∙ opened })
+
+-- bytes without a line feed, while their line isn't too long with them
+pub HasPushed-short : (old part : List ℕ) (tail : ℕ) → IsWaiting old tail → HasNoFeed part → tail + length part ≤ 8192
+    → HasPushed old (old ++ part) (tail + length part) part
+HasPushed-short old part tail waits plain short =
+    let o = waits.opened in
+    let l = length-append (open_line old) part in
+    let is = shape-append-short old part waits.shaped plain (omega arith) in
+    let fits : fit (open_line old ++ part) ≡ open_line old ++ part = fit-short (open_line old ++ part) (omega arith) in
     record {
-      shaped = shaped ∙ ap (λ w. shape (w ++ c ∷ [])) e ∙ shape-shape-append (old.items ++ bytes) (c ∷ []) ∙ ap shape (append_assoc old.items bytes (c ∷ []));
-      kept = kept;
+      shaped = is;
+      kept =
+          IsWaiting-shape (old ++ part) (old ++ part) (tail + length part) is
+          (ap length (ap fit (open_line-append old part plain) ∙ fits) ∙ omega arith);
+      short = omega (arith, length-append old part);
+    }
+
+-- bytes without a line feed, with which their line is too long
+pub HasPushed-long : (old part new : List ℕ) (tail : ℕ) → IsWaiting old tail → HasNoFeed part → 8192 < tail + length part
+    → new ≡ take (length old - tail) old ++ blank_line → HasPushed old new 8193 part
+HasPushed-long old part new tail waits plain long is =
+    let o : length (open_line old) ≡ tail = waits.opened in
+    let l = length-append (open_line old) part in
+    let blank : fit (open_line old ++ part) ≡ blank_line = fit-long (open_line old ++ part) (omega arith) in
+    let shaped : new ≡ shape (old ++ part) =
+    is ∙ ap (λ n. take (length old - n) old ++ blank_line) (sym o) ∙ shape-append-long old part waits.shaped plain (omega arith) in
+    record {
+      shaped = shaped;
+      kept =
+          IsWaiting-shape (old ++ part) new 8193 shaped
+          (ap length (ap fit (open_line-append old part plain) ∙ blank) ∙ length-blank_line);
+      short =
+          let n = ap length is ∙ length-append (take (length old - tail) old) blank_line in
+          let closed = length-take (length old - tail) old in
+          let spaces = length-blank_line in
+          let within = IsWaiting-tail old tail waits in
+          omega arith;
+    }
+
+-- a line feed
+pub HasPushed-feed : (old : List ℕ) (tail : ℕ) → IsWaiting old tail → HasPushed old (old ++ 10 ∷ []) 0 (10 ∷ [])
+HasPushed-feed old tail waits =
+    let is = shape-append-feed old waits.shaped in
+    record {
+      shaped = is;
+      kept = IsWaiting-shape (old ++ 10 ∷ []) (old ++ 10 ∷ []) 0 is (ap length (ap fit (open_line-feed old)));
+      short = omega (arith, length-append old (10 ∷ []));
+    }
+
+-- bytes that come one part after the other
+pub HasPushed-then : (old now new : List ℕ) (tail after : ℕ) (a b : List ℕ) → HasPushed old now tail a → HasPushed now new after b
+    → HasPushed old new after (a ++ b)
+HasPushed-then old now new tail after a b first second =
+    let n = first.short in
+    let m = second.short in
+    let l = length-append a b in
+    record {
+      shaped =
+          second.shaped ∙ ap (λ w. shape (w ++ b)) first.shaped ∙ shape-shape-append (old ++ a) b ∙ ap shape (append_assoc old a b);
+      kept = second.kept;
       short = omega arith;
-      within = omega arith;
-      capacity = omega arith;
     }
 
--- ---- one byte
+-- no bytes
+pub HasPushed-none : (old : List ℕ) (tail : ℕ) → IsWaiting old tail → HasPushed old old tail []
+HasPushed-none old tail waits = record { shaped = sym waits.shaped ∙ ap shape (sym (append-nil old)); kept = waits; short = omega arith }
 
-pub waiting-feed : (w : List ℕ) (t : ℕ) → IsWaiting w t → IsWaiting (w ++ 10 ∷ []) 0
-waiting-feed w t h = record { shaped = shape-push-feed w h.shaped; opened = ap length (open_line-push-feed w) }
+-- the bytes up to a line feed, from those up to the line
+pub take-line : (bytes rest : List ℕ) (start count : ℕ) → start + count < length bytes
+    → IsCut (drop start bytes) (take count (drop start bytes)) rest
+    → take (start + (count + 1)) bytes ≡ take start bytes ++ (take count (drop start bytes) ++ 10 ∷ [])
+take-line bytes rest start count within h =
+    let line = take count (drop start bytes) in
+    let front = take start bytes ++ (line ++ 10 ∷ []) in
+    let parts : bytes ≡ front ++ rest =
+    sym (take-append-drop start bytes) ∙ ap (λ l. take start bytes ++ l) (h.split ∙ sym (append_assoc line (10 ∷ []) rest))
+    ∙ sym (append_assoc (take start bytes) (line ++ 10 ∷ []) rest) in
+    let n = length-append (take start bytes) (line ++ 10 ∷ []) in
+    let m = length-append line (10 ∷ []) in
+    let a = length-take start bytes in
+    let b = length-take count (drop start bytes) in
+    let d = length-drop start bytes in
+    ap (take (start + (count + 1))) parts ∙ take_at front rest (start + (count + 1)) (omega arith)
 
-pub waiting-short : (w : List ℕ) (t c : ℕ) → IsWaiting w t → (c == 10) ≡ false → t < 8192 → IsWaiting (w ++ c ∷ []) (t + 1)
-waiting-short w t c h apart short =
-    let o = h.opened in
-    let l = length-append (open_line w) (c ∷ []) in
-    record {
-      shaped = shape-push-short w c h.shaped apart (omega arith);
-      opened = ap length (open_line-push w c apart) ∙ omega arith;
-    }
-
-pub shape-short : (w : List ℕ) (t c : ℕ) → IsWaiting w t → (c == 10) ≡ false → t < 8192 → w ++ c ∷ [] ≡ shape (w ++ c ∷ [])
-shape-short w t c h apart short = let o = h.opened in sym (shape-push-short w c h.shaped apart (omega arith))
-
-pub shape-long : (w : List ℕ) (t c : ℕ) → IsWaiting w t → (c == 10) ≡ false → t ≡ 8192
-    → take (length w - 8192) w ++ blank_line ≡ shape (w ++ c ∷ [])
-shape-long w t c h apart long =
-    let o : length (open_line w) ≡ 8192 = h.opened ∙ long in
-    sym (rw o at (shape-push-long w c h.shaped apart (omega arith)))
-
-pub waiting-long : (w r : List ℕ) (t c : ℕ) → IsWaiting w t → (c == 10) ≡ false → t ≡ 8192 → r ≡ shape (w ++ c ∷ []) → IsWaiting r 8193
-waiting-long w r t c h apart long is =
-    let o : length (open_line w) ≡ 8192 = h.opened ∙ long in
-    rw is record { shaped = shape-shape (w ++ c ∷ []); opened = open_line-push-long w c apart (omega arith) }
-
-pub shape-past : (w : List ℕ) (t c : ℕ) → IsWaiting w t → (c == 10) ≡ false → 8192 < t → w ≡ shape (w ++ c ∷ [])
-shape-past w t c h apart long = let o = h.opened in sym (shape-push-past w c h.shaped apart (omega arith))
-
-pub blanked : (w t r : List ℕ) (n m : ℕ) → t ≡ take (n - 8192) w → length t ≤ n + 1 → m + 8192 ≡ n
-    → r ≡ take (n + 1) t ++ replicate (n + 1 - m) 32 → r ≡ take (n - 8192) w ++ blank_line
+-- 8,193 spaces behind the bytes that are left
+pub blanked : (bytes kept new : List ℕ) (front n m : ℕ) → kept ≡ take front bytes → n ≡ front + 8192 + 1 → n ≡ m + 8193
+    → new ≡ take n kept ++ replicate (n - m) 32 → new ≡ take front bytes ++ blank_line
 unfolding blank_line
-blanked w t r n m is_t short count is_r =
-    let k : n + 1 - m ≡ 8193 = omega arith in
-    is_r ∙ rw k (ap (λ l. l ++ replicate 8193 32) (take_all (n + 1) t short ∙ is_t))
-
-pub length-blanked : (w r : List ℕ) → r ≡ take (length w - 8192) w ++ blank_line → 8192 ≤ length w → length r ≤ length w + 1
-length-blanked w r is long =
-    let e = ap length is ∙ length-append (take (length w - 8192) w) blank_line in
-    let b = length-blank_line in
-    let t = length-take (length w - 8192) w in
-    omega arith
+blanked bytes kept new front n m is_kept to from is_new =
+    let few = ap length is_kept ∙ length-take front bytes in
+    let spaces : n - m ≡ 8193 = omega arith in
+    is_new ∙ rw spaces (ap (λ l. l ++ replicate 8193 32) (take_all n kept (omega arith) ∙ is_kept))

@@ -1,12 +1,14 @@
--- What a session holds.
+-- What the fields of a session hold.
 use Rattle.std.specs.Prelude.{◌≤◌, length, drop, vec_capacity}
 use Rattle.pm_session.specs.Streams.{Streams}
 use Rattle.pm_session.specs.Waiting.{IsWaiting}
 use Rattle.pm_session.specs.declared.session.Session.TheInside.{Inside}
 
+-- the bytes from `start` on wait
 abbrev pub streams_of : Inside → Streams
 streams_of s = record { waiting = drop s.start s.waiting.items; output = s.output.items; capacity = vec_capacity s.output }
 
+-- they are kept as lines are, in a buffer that never grows
 pub record IsHeld (s : Inside) : Type 0 where
   pub begun : s.start ≤ length s.waiting.items
   pub within : length s.waiting.items ≤ 16384

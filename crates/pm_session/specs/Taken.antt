@@ -1,24 +1,20 @@
 -- What a session shows of its first line, and what is left behind it.
-use Rattle.std.specs.Prelude.{◌≡◌, ℕ, List, Option, None, Some}
+use Rattle.std.specs.Prelude.{◌≡◌, ℕ, List, Option, None, Some, option_map}
 use Rattle.pm_model.specs.Lines.{Event, whole, too_long, event_of, cut}
 use Rattle.pm_model.specs.declared.lines.LineEvent.{LineEvent}
 use Rattle.pm_model.specs.declared.lines.LineEvent.TheVariants.{Line, TooLong}
 use Rattle.pm_session.specs.Streams.{Streams}
 
+-- a line that is lent is a whole one
 abbrev pub shown : LineEvent → Event
 shown (Line line) = whole line.now
 shown TooLong = too_long
 
--- the event of a cut
-abbrev pub ShowsCut : Option (List ℕ × List ℕ) → Option LineEvent → Type 0
-ShowsCut None None = Unit {0}
-ShowsCut None (Some e) = ⊥
-ShowsCut (Some p) None = ⊥
-ShowsCut (Some p) (Some e) = shown e ≡ event_of p.0
+-- the event of the first line, where one is whole
+abbrev pub first_event : List ℕ → Option Event
+first_event bytes = option_map (λ p. event_of p.0) (cut bytes)
 
-abbrev pub Shows : Streams → Option LineEvent → Type 0
-Shows old result = ShowsCut (cut old.waiting) result
-
+-- what is behind the line that is cut off, or all where none is
 abbrev pub rest_of : List ℕ → Option (List ℕ × List ℕ) → List ℕ
 rest_of w None = w
 rest_of w (Some p) = p.1

@@ -1,23 +1,26 @@
-ghost use Rattle.std.specs.Prelude.{◌≡◌, ◌≤◌, ◌<◌, ◌+◌, ◌++◌, [], length, take, drop, Some, None, IfOk, OnOk, OnErr, IsOk};
+//! What has come of a connection, and what is to be sent.
+ghost use Rattle.std.specs.Prelude.{◌≡◌, ◌≤◌, ◌<◌, ◌+◌, ◌++◌, [], length, take, drop, Some, None, IfOk, OnOk, OnErr, IsOk, option_map};
 ghost use Rattle.pm_model.specs.Lines.{shape, cut};
-ghost use Rattle.pm_model.specs.Text.{text};
+ghost use Rattle.pm_model.specs.Nameable.{IsNameable};
+ghost use Rattle.pm_model.specs.Text.{text, bad_text};
 
-use crate::waiting::{ROOM, line_at, part, push_bytes, remove_front};
+use crate::waiting::{LONGEST, ROOM, line_at, part, push_bytes, remove_front};
 use pm_json::{print_bad, print_reply};
-use pm_model::{BadLine, LineEvent, Memory, Reply};
+use pm_model::{BadLine, LineEvent, Memory, NameOf, Reply};
 use std::alloc::Global;
 use std::marker::Model;
 
+// How many bytes of output have their room from the start.
 const OUTPUT: usize = 1024;
-
-const LONGEST: usize = 8192;
 
 /// What has come and isn't answered yet, and what is to be sent. Contracts see the two lists of
 /// bytes. The input buffer of 16,384 bytes is taken once, whatever comes.
 #[derive(Drop)]
 pub struct Session {
     waiting: Vec<u8>,
+    // The bytes before this place were taken.
     start: usize,
+    // How many of the bytes that wait are of the last line, which isn't whole yet.
     tail: usize,
     output: Vec<u8>,
 }
@@ -38,9 +41,10 @@ impl Session {
     ghost use Rattle.std.specs.Borrow.{sem};
     ghost use Rattle.std.specs.Io.BufRead.{Rests};
     ghost use Rattle.pm_session.specs.contracts.session.Session.{the_row};
-    ghost use Rattle.pm_session.specs.Taken.{Shows, LeavesRest};
+    ghost use Rattle.pm_session.specs.Taken.{shown, first_event, LeavesRest};
 
-    /// Nothing waits, and 1,024 bytes of output have their room.
+    /// Nothing waits, and 1,024 bytes of output have their room. Memory where there is none for the
+    /// two buffers.
     pub fn new(alloc: Global) -> Result<Session, Memory>
         ensures { IfOk result (λ s. s ≡ record { waiting = []; output = []; capacity = OUTPUT }) }
     {
@@ -53,7 +57,7 @@ impl Session {
     }
 
     /// Takes some of the first bytes, and says how many. A line of more than 8,192 bytes is kept as
-    /// 8,193 spaces.
+    /// 8,193 spaces, however long it grows.
     pub fn push(&mut self, bytes: &[u8]) -> usize
         ensures waiting { self.new.waiting ≡ shape (self.old.waiting ++ take result bytes.now) }
         ensures output { self.new.output ≡ self.old.output }
@@ -70,14 +74,16 @@ impl Session {
         pushed.count
     }
 
-    /// The first line, which then waits no more, with its line feed; None where none is whole.
+    /// The first line that waits, without its line feed. It and its line feed wait no more. None
+    /// where no line is whole.
     pub fn take(&mut self) -> Option<LineEvent<'_>>
-        ensures shows { Shows self.old result }
+        ensures shows { option_map shown result ≡ first_event self.old.waiting }
         ensures* after_borrow { sem 𝓛 (Rests the_row self.entry (LeavesRest self.old)) }
     {
         let start = self.start;
         let unread = self.waiting.len() - start;
         if unread == self.tail {
+            // No whole line waits, so there is no need to search the bytes again.
             return None;
         }
         let Some(count) = line_at(&self.waiting, start) else {
@@ -92,22 +98,30 @@ impl Session {
     }
 
     /// Appends the line of the reply to the output. On Memory all is as before; where the output has
-    /// the capacity for the line it is Ok.
-    pub fn reply(&mut self, id: Option<u64>, version: u64, reply: &Reply) -> Result<(), Memory>
-        ensures ok { OnOk result (self.new.output ≡ self.old.output ++ text id version reply.now) }
+    /// the capacity for the line it is Ok. `names` is as in `print_reply`.
+    pub fn reply<N: NameOf>(
+        &mut self,
+        id: Option<u64>,
+        version: u64,
+        reply: &Reply,
+        names: &N,
+    ) -> Result<(), Memory>
+        requires { IsNameable (N.named names.now) reply.now }
+        ensures ok { OnOk result (self.new.output ≡ self.old.output ++ text id version (N.name_at names.now) reply.now) }
         ensures err { OnErr result (self.new.output ≡ self.old.output) }
-        ensures fits { length self.old.output + length (text id version reply.now) ≤ self.old.capacity → IsOk result }
+        ensures fits { length self.old.output + length (text id version (N.name_at names.now) reply.now)
+            ≤ self.old.capacity → IsOk result }
         ensures capacity { self.old.capacity ≤ self.new.capacity }
         ensures waiting { self.new.waiting ≡ self.old.waiting }
     {
-        print_reply(id, version, reply, &mut self.output)
+        print_reply(id, version, reply, names, &mut self.output)
     }
 
-    /// Appends the line of a bad form to the output, as `reply` does.
+    /// Appends the line of a bad form to the output, as `reply` does. It names no element.
     pub fn bad(&mut self, id: Option<u64>, version: u64, bad: &BadLine) -> Result<(), Memory>
-        ensures ok { OnOk result (self.new.output ≡ self.old.output ++ text id version (Reply.Bad bad.now)) }
+        ensures ok { OnOk result (self.new.output ≡ self.old.output ++ bad_text id version bad.now) }
         ensures err { OnErr result (self.new.output ≡ self.old.output) }
-        ensures fits { length self.old.output + length (text id version (Reply.Bad bad.now)) ≤ self.old.capacity → IsOk result }
+        ensures fits { length self.old.output + length (bad_text id version bad.now) ≤ self.old.capacity → IsOk result }
         ensures capacity { self.old.capacity ≤ self.new.capacity }
         ensures waiting { self.new.waiting ≡ self.old.waiting }
     {

@@ -1,2 +1,3 @@
-pub mod Creating
-pub mod Numbered
+mod Granting
+mod RightNames
+mod Telling

@@ -1,34 +1,33 @@
 use Rattle.std.proofs.Common.{◌<◌, ap, ◌∙◌, arith, length, List, ℕ, ◌++◌}
 use Rattle.pm_model.specs.Solo.{line_told, answer_what}
-use Rattle.ngac.proofs.Writing.{on_err_of, WrotePart-of}
-use Rattle.ngac.proofs.Answering.{answering-more, answering-part, length-rest}
+use Rattle.ngac.proofs.Answering.{answering-more, answering-part, answering-whole, next-line}
 use Rattle.ngac.proofs.lines.answer_lines.Goals as goal
 
-pub returns-in_err-asked-clause-err : goal.returns-in_err-asked-clause-err
-returns-in_err-asked-clause-err g c = on_err_of _ (WrotePart-of _ _ _ _ c.loop-asked.invariant.wrote)
+pub returns-in_err-asked-clause-memory : goal.returns-in_err-asked-clause-memory
+returns-in_err-asked-clause-memory g c = λ _. answering-whole _ _ _ _ _ _ _ _ _ c.loop-asked.invariant
 
-pub returns-in_err-answer-clause-err : goal.returns-in_err-answer-clause-err
-returns-in_err-answer-clause-err g c = on_err_of _ (WrotePart-of _ _ _ _ c.loop-asked.invariant.wrote)
+pub returns-in_err-answer-clause-memory : goal.returns-in_err-answer-clause-memory
+returns-in_err-answer-clause-memory g c = λ _. answering-whole _ _ _ _ _ _ _ _ _ c.loop-asked.invariant
 
 pub loop-asked-smaller : goal.loop-asked-smaller
 loop-asked-smaller g c =
-    let next = rw c.in-Some.is at c.in_ok-asked.ensures.asked in
+    let next = next-line c.loop-asked.session.waiting c.in-Some.asked (rw c.in-Some.is at c.in_ok-asked.ensures.asked) in
+    let l = next.shorter in
     let rest = ap (λ (l : List ℕ). length l) (c.in_ok-send.ensures.waiting ∙ c.in_ok-answer.ensures.waiting ∙ c.in_ok-asked.ensures.waiting) in
-    let l = length-rest c.loop-asked.session.waiting c.in-Some.asked next in
     let want : length c.send.new.session.waiting < length c.loop-asked.session.waiting = omega arith in want
 
 pub loop-asked-preserved : goal.loop-asked-preserved
 loop-asked-preserved g c =
-    answering-more _ _ _ _ _ _ _ c.loop-asked.solo _ c.loop-asked.session.waiting _ c.answer.new.session.output _ _ c.in-Some.asked c.loop-asked.invariant
+    answering-more _ _ _ _ _ _ _ _ c.loop-asked.solo _ c.loop-asked.session.waiting _ c.answer.new.session.output _ _ c.in-Some.asked c.loop-asked.invariant
     (rw c.in-Some.is at c.in_ok-asked.ensures.asked)
     (c.in_ok-answer.ensures.output ∙ ap (λ (l : List ℕ). l ++ line_told c.in-Some.asked.id c.loop-asked.solo (answer_what c.loop-asked.solo c.in-Some.asked.what)) (c.in_ok-asked.ensures.output ∙ c.loop-asked.invariant.sent))
     c.in_ok-send.ensures.ok c.in_ok-answer.ensures.state
     (c.in_ok-send.ensures.waiting ∙ c.in_ok-answer.ensures.waiting ∙ c.in_ok-asked.ensures.waiting)
     c.in_ok-send.ensures.sent c.in_ok-send.ensures.cause.later
 
-pub returns-in_err-send-clause-err : goal.returns-in_err-send-clause-err
-returns-in_err-send-clause-err g c =
-    on_err_of _ (answering-part _ _ _ _ _ _ c.loop-asked.solo c.loop-asked.session.waiting c.answer.new.session.output _ c.in-Some.asked c.loop-asked.invariant
+pub returns-in_err-send-clause-fault : goal.returns-in_err-send-clause-fault
+returns-in_err-send-clause-fault g c = λ _.
+    answering-part _ _ _ _ _ _ _ c.loop-asked.solo c.loop-asked.session.waiting c.answer.new.session.output _ c.in-Some.asked c.loop-asked.invariant
     (rw c.in-Some.is at c.in_ok-asked.ensures.asked)
     (c.in_ok-answer.ensures.output ∙ ap (λ (l : List ℕ). l ++ line_told c.in-Some.asked.id c.loop-asked.solo (answer_what c.loop-asked.solo c.in-Some.asked.what)) (c.in_ok-asked.ensures.output ∙ c.loop-asked.invariant.sent))
-    c.in_err-send.ensures.err)
+    c.in_err-send.ensures.err

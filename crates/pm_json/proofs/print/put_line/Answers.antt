@@ -7,4 +7,4 @@ use Rattle.pm_json.proofs.Members.{line_by}
 use Rattle.pm_json.proofs.print.put_line.Goals as goal
 
 pub returns : goal.returns
-returns c = rw (line_by (key_text V) (number (unsigned c.args.version)) [] (front (record { id = c.args.id }) c.args.reply.now)) c.put_line_parts.ensures
+returns g c = rw (line_by (key_text V) (number (unsigned c.args.version)) [] (front (record { id = c.args.id }) (g.N.NameOf.name_at c.args.names.now) c.args.reply.now)) c.put_line_parts.ensures

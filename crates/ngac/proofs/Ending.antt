@@ -1,0 +1,167 @@
+-- How a run ends.
+use Rattle.std.proofs.Common.{◌≡◌, ◌<◌, ℕ, List, [], ◌∷◌, ◌++◌, length, take, Option, None, Some, refl, sym, ◌∙◌, ap, subst, arith, length-append, false, nat_lt}
+use Rattle.std.proofs.lemmas.List.{append-nil}
+use Rattle.std.proofs.lemmas.Bool.{le-ltb}
+use Rattle.std.proofs.Math.Seq.{take-append_seam}
+use Rattle.std.specs.Io.KnownBytes.{Consumes, IsAtEnd, Keeps}
+use Rattle.pm_model.specs.State.{State, opening}
+use Rattle.pm_model.specs.Lines.{cut, events}
+use Rattle.pm_model.specs.Solo.{solo, replies}
+use Rattle.pm_session.proofs.LineLaws.{events-no_cut}
+use Rattle.ngac.specs.Coming.{coming, ahead, coming_past}
+use Rattle.ngac.specs.Fronts.{IsProperFront}
+use Rattle.ngac.specs.Ran.{Ran, AreWholeReplies, IsComplete}
+use Rattle.ngac.specs.Wrote.{Wrote, WroteWhole, WrotePart}
+use Rattle.ngac.specs.declared.statuses.Status.TheVariants.{Done, Usage, ReadFault, WriteFault, Memory, TooMuch}
+use Rattle.ngac.proofs.Known.{Appends-nil, Consumes-nil, Consumes-append, Consumes-kept}
+use Rattle.ngac.proofs.Running.{Running, Reading, reading-whole, reading-part}
+
+-- ---- what was written
+
+-- where no whole line waits, all is answered
+solo-answered : (bytes w : List ℕ) (a b : Option (List ℕ)) (S : State) → cut w ≡ None → (h : Wrote a b opening S (coming bytes) (coming w)) → replies opening h.lines ≡ solo bytes
+solo-answered bytes w a b S drained h =
+    let none : coming w [] ≡ [] = ap events (append-nil w) ∙ events-no_cut w drained in
+    ap (replies opening)
+    (sym (ap events (sym (append-nil bytes)) ∙ h.told [] ∙ ap (λ l. h.lines ++ l) none ∙ append-nil h.lines))
+
+-- whole replies are those to the first lines
+whole-replies : (bytes : List ℕ) (a b : Option (List ℕ)) (h : WroteWhole a b opening (coming bytes)) → AreWholeReplies (replies opening h.lines) bytes
+whole-replies bytes a b h =
+    let t = h.told [] in
+    let all : events bytes ≡ h.lines ++ t.0 = ap events (sym (append-nil bytes)) ∙ t.1 in
+    record {
+      count = length h.lines;
+      within = let l = ap length all ∙ length-append h.lines t.0 in omega arith;
+      split = ap (replies opening) (sym (ap (take (length h.lines)) all ∙ take-append_seam h.lines t.0));
+    }
+
+-- a part is a proper front
+proper-part : (bytes : List ℕ) (a b : Option (List ℕ)) (h : WrotePart a b (ahead opening (coming bytes))) → IsProperFront h.written (solo bytes)
+proper-part bytes a b h = subst (λ l. IsProperFront h.written (replies opening (events l))) (append-nil bytes) (h.told [])
+
+-- a proper front isn't the whole
+apart : (front bytes : List ℕ) → IsProperFront front bytes → front ≡ bytes → ⊥
+apart front bytes h same =
+    let l = ap length h.split ∙ length-append front (h.next ∷ h.rest) in
+    let e = ap length same in
+    omega arith
+
+-- ---- the ends of a run
+
+-- before anything was read, for want of memory
+pub ran-nothing : (limit : ℕ) (left taken : Option (List ℕ)) → Ran limit left left taken taken Memory
+ran-nothing limit left taken = record {
+  bytes = [];
+  written = [];
+  consumed = Consumes-nil left;
+  appended = Appends-nil taken;
+  due = record { count = 0; within = omega arith; split = refl };
+  at_end = λ e. cc;
+  within = omega arith;
+  at_limit = λ other. absurd (other refl);
+}
+
+-- a source that failed
+pub ran-read_fault : (limit : ℕ) (left rest last taken grown : Option (List ℕ)) (S : State) (w o : List ℕ) (n a b c d : ℕ)
+    → Running left rest taken grown S w o n a b c d → n < limit → Keeps rest last
+    → Ran limit left last taken grown ReadFault
+ran-read_fault limit left rest last taken grown S w o n a b c d h short k = record {
+  bytes = h.bytes;
+  written = replies opening h.wrote.lines;
+  consumed = Consumes-kept left rest last h.bytes h.consumed k;
+  appended = h.wrote.appended;
+  due = solo-answered h.bytes w taken grown S h.drained h.wrote;
+  at_end = λ e. cc;
+  within = let q = h.count in omega arith;
+  at_limit = λ _. (λ e. cc, λ p. let q = h.count in let l = p.0 in let none : ⊥ = omega arith in absurd none);
+}
+
+-- a source at its end
+pub ran-done : (limit : ℕ) (left rest last taken grown : Option (List ℕ)) (S : State) (w o : List ℕ) (n a b c d : ℕ)
+    → Running left rest taken grown S w o n a b c d → n < limit → Consumes rest last [] → IsAtEnd last
+    → Ran limit left last taken grown Done
+ran-done limit left rest last taken grown S w o n a b c d h short k end = record {
+  bytes = h.bytes;
+  written = replies opening h.wrote.lines;
+  consumed = subst (Consumes left last) (append-nil h.bytes) (Consumes-append left rest last h.bytes [] h.consumed k);
+  appended = h.wrote.appended;
+  due = solo-answered h.bytes w taken grown S h.drained h.wrote;
+  at_end = λ _. end;
+  within = let q = h.count in omega arith;
+  at_limit = λ _. (λ e. cc, λ p. let q = h.count in let l = p.0 in let none : ⊥ = omega arith in absurd none);
+}
+
+-- as many bytes as the limit
+pub ran-much : (limit : ℕ) (left rest taken grown : Option (List ℕ)) (S : State) (w o : List ℕ) (n a b c d : ℕ)
+    → Running left rest taken grown S w o n a b c d → n ≡ limit → Ran limit left rest taken grown TooMuch
+ran-much limit left rest taken grown S w o n a b c d h much =
+    let all = solo-answered h.bytes w taken grown S h.drained h.wrote in
+    record {
+      bytes = h.bytes;
+      written = replies opening h.wrote.lines;
+      consumed = h.consumed;
+      appended = h.wrote.appended;
+      due = all;
+      at_end = λ e. cc;
+      within = let q = h.count in omega arith;
+      at_limit = λ _. (λ _. (h.count ∙ much, all), λ _. refl);
+    }
+
+-- so it must be, where the input is that long
+pub complete-much : (limit : ℕ) (left rest taken grown : Option (List ℕ)) (S : State) (w o : List ℕ) (n a b c d : ℕ)
+    → Running left rest taken grown S w o n a b c d → n ≡ limit → IsComplete limit left TooMuch
+complete-much limit None rest taken grown S w o n a b c d h much = tt
+complete-much limit (Some input) None taken grown S w o n a b c d h much = absurd h.consumed
+complete-much limit (Some input) (Some behind) taken grown S w o n a b c d h much = λ _.
+    let l = ap length h.consumed ∙ length-append h.bytes behind in
+    let q = h.count in
+    let past : nat_lt (length input) limit ≡ false = le-ltb (length input) limit (omega arith) in rw past refl
+
+-- a sink that failed
+pub ran-write_fault : (limit : ℕ) (left rest taken grown now : Option (List ℕ)) (S : State) (w piece : List ℕ)
+    → Reading left rest taken grown S w piece limit → WrotePart grown now (ahead S (coming_past w piece))
+    → Ran limit left rest taken now WriteFault
+ran-write_fault limit left rest taken grown now S w piece h part =
+    let all = reading-part limit left rest taken grown now S w piece h part in
+    let due = proper-part h.bytes taken now all in
+    record {
+      bytes = h.bytes;
+      written = all.written;
+      consumed = h.consumed;
+      appended = all.appended;
+      due = due;
+      at_end = λ e. cc;
+      within = h.within;
+      at_limit = λ _. (λ e. cc, λ p. absurd (apart all.written (solo h.bytes) due p.1));
+    }
+
+-- no memory for a line
+pub ran-memory : (limit : ℕ) (left rest taken grown now : Option (List ℕ)) (S : State) (w piece : List ℕ)
+    → Reading left rest taken grown S w piece limit → WroteWhole grown now S (coming_past w piece)
+    → Ran limit left rest taken now Memory
+ran-memory limit left rest taken grown now S w piece h whole =
+    let all = reading-whole limit left rest taken grown now S w piece h whole in
+    record {
+      bytes = h.bytes;
+      written = replies opening all.lines;
+      consumed = h.consumed;
+      appended = all.appended;
+      due = whole-replies h.bytes taken now all;
+      at_end = λ e. cc;
+      within = h.within;
+      at_limit = λ other. absurd (other refl);
+    }
+
+-- nothing to be done
+pub ran-usage : (limit : ℕ) (left taken : Option (List ℕ)) → 0 < limit → Ran limit left left taken taken Usage
+ran-usage limit left taken some = record {
+  bytes = [];
+  written = [];
+  consumed = Consumes-nil left;
+  appended = Appends-nil taken;
+  due = (refl, refl);
+  at_end = λ e. cc;
+  within = omega arith;
+  at_limit = λ _. (λ e. cc, λ p. let l = p.0 in let none : ⊥ = omega arith in absurd none);
+}

@@ -1,0 +1,49 @@
+/// How the program ended.
+#[derive(Clone, Copy, Debug, PartialEq, Eq)]
+pub enum Status {
+    /// All of the input was read, and its lines answered.
+    Done,
+    /// The words of the command line are outside the grammar.
+    Usage,
+    /// The source failed.
+    ReadFault,
+    /// `out` failed, or took nothing.
+    WriteFault,
+    /// There was no memory.
+    Memory,
+    /// The input is as long as its limit, or longer.
+    TooMuch,
+}
+
+impl Status {
+    ghost use Rattle.std.specs.Prelude.{◌≡◌};
+    ghost use Rattle.ngac.specs.Statuses.{status_number, status_text};
+
+    /// The number that the process ends with.
+    pub fn number(self) -> u8
+        ensures { result ≡ status_number self }
+    {
+        match self {
+            Status::Done => 0,
+            Status::Usage => 2,
+            Status::ReadFault => 3,
+            Status::WriteFault => 4,
+            Status::Memory => 5,
+            Status::TooMuch => 6,
+        }
+    }
+
+    /// The line that says why it ended so; nothing for Done.
+    pub fn text(self) -> &'static str
+        ensures { result.now ≡ status_text self }
+    {
+        match self {
+            Status::Done => "",
+            Status::Usage => "usage: ngac run\n",
+            Status::ReadFault => "ngac: read failed\n",
+            Status::WriteFault => "ngac: write failed\n",
+            Status::Memory => "ngac: out of memory\n",
+            Status::TooMuch => "ngac: too much input\n",
+        }
+    }
+}

@@ -1,0 +1,290 @@
+use crate::run::run_lines;
+use crate::statuses::Status;
+use crate::top::top;
+use pm_io::{CalmSource, MemSink, MemSource};
+use pm_model::{Failed, Source};
+use std::alloc::{AllocError, Global};
+use std::process::Abort;
+use std::test::Fail;
+
+const LIMIT: u64 = 1 << 40;
+
+const ROOM: usize = 65536;
+
+// A line, and the replies to it when it comes first and when it comes again.
+static FILES: &[u8] = b"{\"cmd\":\"create_pc\",\"id\":1,\"name\":\"files\",\"proc\":0}\n";
+
+static DONE: &[u8] = b"{\"id\":1,\"ok\":\"done\",\"v\":1}\n";
+
+static TAKEN: &[u8] = b"{\"id\":1,\"no\":\"name_taken\",\"v\":1}\n";
+
+fn joined(alloc: Global, parts: &[&[u8]]) -> Result<Vec<u8>, AllocError> {
+    let mut bytes = Vec::new(alloc);
+    for part in parts {
+        bytes.extend_from_slice(part)?;
+    }
+    Ok(bytes)
+}
+
+fn words(alloc: Global, texts: &[&str]) -> Result<Vec<String>, AllocError> {
+    let mut words = Vec::new(alloc);
+    for text in texts {
+        let word = String::from_str(alloc, text)?;
+        words.push(word)?;
+    }
+    Ok(words)
+}
+
+// The numbers of the calls that fail, and the room of `out`.
+#[derive(Clone, Copy)]
+struct Outside<'a> {
+    reads: &'a [u64],
+    writes: &'a [u64],
+    room: usize,
+}
+
+// What `ngac run` does with the input.
+fn check_run(
+    rt: &(impl Abort + Alloc<A = Global>),
+    outside: &Outside<'_>,
+    input: &[u8],
+    status: Status,
+    output: &[u8],
+) -> Result<(), Fail> {
+    let alloc = rt.alloc();
+    let mut source = MemSource::new(alloc, input, outside.reads)?;
+    let mut out = MemSink::new(alloc, outside.room, outside.writes)?;
+    let mut err = MemSink::new(alloc, 64, &[])?;
+    let words = words(alloc, &["run"])?;
+    assert_eq!(rt; top(alloc, &words, &mut source, &mut out, &mut err), status);
+    assert_eq!(rt; out.taken(), output);
+    assert_eq!(rt; err.taken(), status.text().as_bytes());
+    Ok(())
+}
+
+const CALM: Outside<'static> = Outside {
+    reads: &[],
+    writes: &[],
+    room: ROOM,
+};
+
+#[test]
+fn lines_are_answered(rt: HostRuntime) -> Result<(), Fail> {
+    let twice = joined(rt.alloc(), &[FILES, FILES])?;
+    let both = joined(rt.alloc(), &[DONE, TAKEN])?;
+    let bad = b"{\"cmd\":\"create_pc\",\"name\":\"files\",\"proc\":1}\n{}\n".as_slice();
+    let refusals =
+        b"{\"no\":\"unknown_process\",\"v\":0}\n{\"no\":\"not_request\",\"v\":0}\n".as_slice();
+    let table = [
+        (b"".as_slice(), b"".as_slice()),
+        (FILES, DONE),
+        (&twice, &both),
+        (bad, refusals),
+        (&FILES[..50], b""),
+    ];
+    for (input, output) in table {
+        check_run(&rt, &CALM, input, Status::Done, output)?;
+    }
+    Ok(())
+}
+
+#[test]
+fn faults_end_the_run(rt: HostRuntime) -> Result<(), Fail> {
+    let twice = joined(rt.alloc(), &[FILES, FILES])?;
+    let both = joined(rt.alloc(), &[DONE, TAKEN])?;
+    let second_read = Outside {
+        reads: &[2],
+        ..CALM
+    };
+    let first_read = Outside {
+        reads: &[1],
+        ..CALM
+    };
+    let first_write = Outside {
+        writes: &[1],
+        ..CALM
+    };
+    let second_write = Outside {
+        writes: &[2],
+        ..CALM
+    };
+    let little_room = Outside { room: 5, ..CALM };
+    let table = [
+        (second_read, Status::ReadFault, both.as_slice()),
+        (first_read, Status::ReadFault, b""),
+        (first_write, Status::WriteFault, b""),
+        (second_write, Status::WriteFault, DONE),
+        (little_room, Status::WriteFault, b"{\"id\""),
+    ];
+    for (outside, status, output) in table {
+        check_run(&rt, &outside, &twice, status, output)?;
+    }
+    Ok(())
+}
+
+// Of 6,000 bytes of lines of three bytes the first read gives 4,096, and the second one fails.
+#[test]
+fn the_lines_of_a_first_piece_are_answered(rt: HostRuntime) -> Result<(), Fail> {
+    let alloc = rt.alloc();
+    let input = [b"{}\n".as_slice(); 2000];
+    let input = joined(alloc, &input)?;
+    let mut source = MemSource::new(alloc, &input, &[2])?;
+    let mut out = MemSink::new(alloc, ROOM, &[])?;
+    let status = run_lines(alloc, LIMIT, &mut source, &mut out);
+    assert_eq!(rt; status, Status::ReadFault);
+    let replies = out.taken().iter().filter(|byte| **byte == b'\n').count();
+    assert_eq!(rt; replies, 1365);
+    Ok(())
+}
+
+#[test]
+fn a_run_stops_at_its_limit(rt: HostRuntime) -> Result<(), Fail> {
+    let alloc = rt.alloc();
+    let twice = joined(alloc, &[FILES, FILES])?;
+    let both = joined(alloc, &[DONE, TAKEN])?;
+    let table = [
+        (0, Status::TooMuch, b"".as_slice()),
+        (50, Status::TooMuch, b""),
+        (51, Status::TooMuch, DONE),
+        (102, Status::TooMuch, &both),
+        (103, Status::Done, &both),
+    ];
+    for (limit, status, output) in table {
+        let mut source = CalmSource::new(alloc, &twice)?;
+        let mut out = MemSink::new(alloc, ROOM, &[])?;
+        assert_eq!(rt;
+            run_lines(alloc, limit, &mut source, &mut out),
+            status,
+            "at {limit}"
+        );
+        assert_eq!(rt; out.taken(), output, "at {limit}");
+    }
+    Ok(())
+}
+
+// A line of this length and one more. The longest one that is read has 8,192 bytes.
+fn long_lines(alloc: Global, length: usize) -> Result<Vec<u8>, AllocError> {
+    let mut line = Vec::from_slice(alloc, b"{\"cmd\":\"create_pc\",\"name\":\"a\",\"proc\":0}")?;
+    line.resize(length, b' ')?;
+    joined(alloc, &[&line, b"\n", FILES])
+}
+
+#[test]
+fn a_line_has_at_most_8192_bytes(rt: HostRuntime) -> Result<(), Fail> {
+    let table = [
+        (
+            8192,
+            b"{\"ok\":\"done\",\"v\":1}\n{\"id\":1,\"ok\":\"done\",\"v\":2}\n".as_slice(),
+        ),
+        (8193, b",\"v\":0}\n{\"id\":1,\"ok\":\"done\",\"v\":1}\n"),
+    ];
+    for (length, end) in table {
+        let mut source = CalmSource::new(rt.alloc(), &long_lines(rt.alloc(), length)?)?;
+        let mut out = MemSink::new(rt.alloc(), ROOM, &[])?;
+        assert_eq!(rt;
+            run_lines(rt.alloc(), LIMIT, &mut source, &mut out),
+            Status::Done
+        );
+        assert!(rt; out.taken().ends_with(end), "at {length}");
+    }
+    Ok(())
+}
+
+// A first piece of at most this many bytes, and then others.
+#[derive(Drop)]
+struct Pieces {
+    bytes: CalmSource,
+    first: usize,
+    then: usize,
+}
+
+impl Source for Pieces {
+    ghost use Rattle.std.specs.Prelude.{Some};
+
+    ghost left = { λ s. Some s.bytes };
+
+    ghost faults = { λ _. 0 };
+
+    fn read(&mut self, piece: &mut [u8]) -> Result<usize, Failed> {
+        let most = self.first.clamp(1, piece.len());
+        self.first = self.then;
+        self.bytes.read(&mut piece[..most])
+    }
+}
+
+#[test]
+fn the_cutting_into_pieces_does_not_matter(rt: HostRuntime) -> Result<(), Fail> {
+    let alloc = rt.alloc();
+    let input = joined(alloc, &[FILES, b"{}\n", FILES, b"{"])?;
+    let output = joined(alloc, &[DONE, b"{\"no\":\"not_request\",\"v\":1}\n", TAKEN])?;
+    for first in 1..input.len() {
+        for then in [1, ROOM] {
+            let bytes = CalmSource::new(alloc, &input)?;
+            let mut source = Pieces { bytes, first, then };
+            let mut out = MemSink::new(alloc, ROOM, &[])?;
+            assert_eq!(rt;
+                run_lines(alloc, LIMIT, &mut source, &mut out),
+                Status::Done
+            );
+            assert_eq!(rt; out.taken(), output.as_slice(), "{first}, then {then}");
+        }
+    }
+    Ok(())
+}
+
+#[test]
+fn other_words_are_usage(rt: HostRuntime) -> Result<(), Fail> {
+    let alloc = rt.alloc();
+    let table = [[].as_slice(), &["run", "x"], &["walk"], &["run "]];
+    for texts in table {
+        let mut source = CalmSource::new(alloc, FILES)?;
+        let mut out = MemSink::new(alloc, ROOM, &[])?;
+        let mut err = MemSink::new(alloc, 64, &[])?;
+        let words = words(alloc, texts)?;
+        let status = top(alloc, &words, &mut source, &mut out, &mut err);
+        assert_eq!(rt; status, Status::Usage);
+        assert_eq!(rt; err.taken(), b"usage: ngac run\n".as_slice());
+        assert!(rt; out.taken().is_empty());
+        assert_eq!(rt;
+            run_lines(alloc, LIMIT, &mut source, &mut out),
+            Status::Done
+        );
+        assert_eq!(rt; out.taken(), DONE);
+    }
+    Ok(())
+}
+
+#[test]
+fn a_failing_err_changes_no_status(rt: HostRuntime) -> Result<(), Fail> {
+    let alloc = rt.alloc();
+    let table = [
+        ("run", 64, 1, Status::ReadFault, b"".as_slice()),
+        ("run", 4, 9, Status::ReadFault, b"ngac"),
+        ("walk", 64, 1, Status::Usage, b""),
+    ];
+    for (word, room, failing, status, said) in table {
+        let mut source = MemSource::new(alloc, FILES, &[1])?;
+        let mut out = MemSink::new(alloc, ROOM, &[])?;
+        let mut err = MemSink::new(alloc, room, &[failing])?;
+        let words = words(alloc, &[word])?;
+        assert_eq!(rt; top(alloc, &words, &mut source, &mut out, &mut err), status);
+        assert_eq!(rt; err.taken(), said);
+    }
+    Ok(())
+}
+
+#[test]
+fn statuses_have_their_numbers_and_texts(rt: HostRuntime) {
+    let table = [
+        (Status::Done, 0, ""),
+        (Status::Usage, 2, "usage: ngac run\n"),
+        (Status::ReadFault, 3, "ngac: read failed\n"),
+        (Status::WriteFault, 4, "ngac: write failed\n"),
+        (Status::Memory, 5, "ngac: out of memory\n"),
+        (Status::TooMuch, 6, "ngac: too much input\n"),
+    ];
+    for (status, number, text) in table {
+        assert_eq!(rt; status.number(), number);
+        assert_eq!(rt; status.text(), text);
+    }
+}

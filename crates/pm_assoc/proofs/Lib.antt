@@ -1,0 +1,5 @@
+mod Added
+mod Asked
+mod Edits
+mod Places
+mod Removed

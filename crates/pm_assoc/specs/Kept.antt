@@ -1,0 +1,9 @@
+-- How the table is kept.
+use Rattle.std.specs.Prelude.{◌≡◌, length}
+use Rattle.pm_model.specs.Decision.{associations_of}
+use Rattle.pm_assoc.specs.Grantees.{AreGrantees}
+use Rattle.pm_assoc.specs.declared.table.Assoc.TheInside.{Inside}
+
+pub record IsKept (t : Inside) : Type 0 where
+  pub ordered : AreGrantees 0 t.grantees.items
+  pub counted : t.count ≡ length (associations_of t.grantees.items)

@@ -1,0 +1,4 @@
+pub mod Ends
+pub mod Grantees
+pub mod Kept
+pub mod Told

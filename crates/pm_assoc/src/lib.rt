@@ -1,0 +1,13 @@
+//! The table of associations.
+#![tactic(auto)]
+
+mod checks;
+mod errors;
+mod grantees;
+mod table;
+
+pub use errors::{AssocError, change_error};
+pub use table::Assoc;
+
+#[cfg(test)]
+mod tests;

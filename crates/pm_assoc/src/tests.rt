@@ -1,0 +1,168 @@
+use super::*;
+use pm_model::{ChangeError, ElementId, Grants, Memory, Refusal, Rights, Table};
+use std::alloc::Global;
+use std::test::Fail;
+
+/// A user attribute, the rights that it has, and on what.
+type Row = (u32, u64, u32);
+
+/// The table of these associations, made in this order.
+fn table_of(alloc: Global, rows: &[Row]) -> Result<Assoc, AssocError> {
+    let mut table = Assoc::new(alloc);
+    for (ua, rights, at) in rows {
+        table.associate(ElementId(*ua), Rights(*rights), ElementId(*at))?;
+    }
+    Ok(table)
+}
+
+/// The associations in the table's order.
+fn rows_of(alloc: Global, table: &Assoc) -> Result<Vec<Row>, Memory> {
+    let mut rows = Vec::new(alloc);
+    for i in 0..Grants::len(table) {
+        let grantee = table.at(i);
+        for grant in grantee.grants.as_slice() {
+            rows.push((grantee.ua.number(), grant.rights.0, grant.at.number()))?;
+        }
+    }
+    Ok(rows)
+}
+
+#[test]
+fn stand_by_attribute_in_order_of_creation(rt: HostRuntime) -> Result<(), Fail> {
+    let table = table_of(
+        rt.alloc(),
+        &[(5, 1, 1), (2, 2, 9), (9, 3, 3), (2, 4, 4), (5, 5, 0)],
+    )?;
+    let rows = rows_of(rt.alloc(), &table)?;
+    assert_eq!(rt;
+        rows.as_slice(),
+        [(2, 2, 9), (2, 4, 4), (5, 1, 1), (5, 5, 0), (9, 3, 3)].as_slice()
+    );
+    assert_eq!(rt; table.len(), 5);
+    Ok(())
+}
+
+#[test]
+fn one_goes_and_the_others_stay(rt: HostRuntime) -> Result<(), Fail> {
+    let cases = [
+        (2, 9, [(2, 4, 4), (5, 1, 1)]),
+        (2, 4, [(2, 2, 9), (5, 1, 1)]),
+        (5, 1, [(2, 2, 9), (2, 4, 4)]),
+    ];
+    for (ua, at, want) in cases {
+        let mut table = table_of(rt.alloc(), &[(2, 2, 9), (2, 4, 4), (5, 1, 1)])?;
+        table.dissociate(ElementId(ua), ElementId(at))?;
+        let rows = rows_of(rt.alloc(), &table)?;
+        assert_eq!(rt; rows.as_slice(), want.as_slice(), "without {ua} on {at}");
+        assert_eq!(rt; table.len(), 2);
+    }
+    Ok(())
+}
+
+#[test]
+fn what_stands_is_refused_and_kept(rt: HostRuntime) -> Result<(), Fail> {
+    let mut table = table_of(rt.alloc(), &[(2, 1, 9), (5, 1, 1)])?;
+    let again = table.associate(ElementId(2), Rights(6), ElementId(9));
+    assert_eq!(rt; again, Err(AssocError::Already));
+    assert_eq!(rt;
+        table.check_associate(ElementId(2), ElementId(9)),
+        Err(AssocError::Already)
+    );
+    assert_eq!(rt; table.check_associate(ElementId(2), ElementId(1)), Ok(()));
+    let rows = rows_of(rt.alloc(), &table)?;
+    assert_eq!(rt; rows.as_slice(), [(2, 1, 9), (5, 1, 1)].as_slice());
+    Ok(())
+}
+
+#[test]
+fn what_does_not_stand_is_absent(rt: HostRuntime) -> Result<(), Fail> {
+    let mut table = table_of(rt.alloc(), &[(2, 1, 9), (5, 1, 1)])?;
+    for (ua, at) in [(2, 1), (5, 9), (9, 2), (3, 9), (0, 0)] {
+        let gone = table.dissociate(ElementId(ua), ElementId(at));
+        assert_eq!(rt; gone, Err(AssocError::Absent), "{ua} on {at}");
+    }
+    assert_eq!(rt;
+        table.check_dissociate(ElementId(2), ElementId(1)),
+        Err(AssocError::Absent)
+    );
+    assert_eq!(rt; table.check_dissociate(ElementId(2), ElementId(9)), Ok(()));
+    assert_eq!(rt; table.len(), 2);
+    Ok(())
+}
+
+#[test]
+fn errors_are_told_as_refusals(rt: HostRuntime) {
+    let full = change_error(AssocError::Full);
+    assert!(rt;
+        matches!(
+            full,
+            ChangeError::Refused(Refusal::Full(Table::Associations))
+        )
+    );
+    let absent = change_error(AssocError::Absent);
+    assert!(rt; matches!(absent, ChangeError::Refused(Refusal::Absent)));
+    let already = change_error(AssocError::Already);
+    assert!(rt; matches!(already, ChangeError::Refused(Refusal::Already)));
+    let memory = change_error(AssocError::Memory);
+    assert!(rt; matches!(memory, ChangeError::Memory));
+}
+
+#[test]
+fn names_both_ends(rt: HostRuntime) -> Result<(), Fail> {
+    let mut table = table_of(rt.alloc(), &[(2, 1, 9), (5, 1, 1)])?;
+    table.associate(ElementId(5), Rights(1), ElementId(7))?;
+    table.dissociate(ElementId(2), ElementId(9))?;
+    for (id, named) in [
+        (5, true),
+        (1, true),
+        (7, true),
+        (2, false),
+        (9, false),
+        (0, false),
+    ] {
+        assert_eq!(rt; table.names(ElementId(id)), named, "{id}");
+    }
+    Ok(())
+}
+
+#[test]
+fn a_copy_is_another_table(rt: HostRuntime) -> Result<(), Fail> {
+    let mut table = table_of(rt.alloc(), &[(2, 1, 9), (2, 6, 4)])?;
+    let mut copy = table.copy()?;
+    table.dissociate(ElementId(2), ElementId(9))?;
+    copy.associate(ElementId(5), Rights(1), ElementId(1))?;
+    let rows = rows_of(rt.alloc(), &table)?;
+    let copied = rows_of(rt.alloc(), &copy)?;
+    assert_eq!(rt; rows.as_slice(), [(2, 6, 4)].as_slice());
+    assert_eq!(rt;
+        copied.as_slice(),
+        [(2, 1, 9), (2, 6, 4), (5, 1, 1)].as_slice()
+    );
+    Ok(())
+}
+
+#[test]
+fn holds_65536_associations(rt: HostRuntime) -> Result<(), Fail> {
+    let mut table = Assoc::new(rt.alloc());
+    for ua in 0..256 {
+        for at in 0..256 {
+            table.associate(ElementId(ua), Rights(1), ElementId(at))?;
+        }
+    }
+    assert_eq!(rt; table.len(), 65536);
+    assert_eq!(rt;
+        table.associate(ElementId(0), Rights(1), ElementId(256)),
+        Err(AssocError::Full)
+    );
+    assert_eq!(rt;
+        table.associate(ElementId(256), Rights(1), ElementId(0)),
+        Err(AssocError::Full)
+    );
+    assert_eq!(rt;
+        table.associate(ElementId(0), Rights(1), ElementId(0)),
+        Err(AssocError::Already)
+    );
+    table.dissociate(ElementId(255), ElementId(0))?;
+    assert_eq!(rt; table.check_associate(ElementId(256), ElementId(0)), Ok(()));
+    Ok(())
+}

@@ -1,0 +1,180 @@
+//! Privileges and decisions with their reasons, over whatever keeps containment and associations.
+#![tactic(auto)]
+
+ghost use Rattle.std.specs.Prelude.{◌≡◌, ◌<◌};
+ghost use Rattle.std.specs.List.{list_any};
+ghost use Rattle.pm_model.specs.Decision.{is_met, lacking, privilege, of_grantee, associations_of};
+ghost use Rattle.pm_decide.specs.Live.{IsLive, AllLive, GranteeLive, EndsLive};
+ghost use Rattle.pm_decide.specs.Gives.{gives};
+ghost use Rattle.pm_decide.specs.Verdict.{decision};
+
+#[cfg(test)]
+mod tests;
+mod verdict;
+
+use pm_model::{ClassList, ElementId, Grant, Grantee, Grants, Reach};
+pub use verdict::Verdict;
+
+/// Whether the grant gives the right on the element in the class.
+fn gives<R: Reach>(
+    reach: &mut R,
+    grant: Grant,
+    right: u8,
+    element: ElementId,
+    class: ElementId,
+) -> bool
+    requires right { right < 64 }
+    requires element { IsLive (R.relation reach.old) element }
+    requires class { IsLive (R.relation reach.old) class }
+    requires at { IsLive (R.relation reach.old) grant.at }
+    ensures answer { result ≡ gives (R.relation reach.old).below right element class grant }
+    ensures same { R.relation reach.new ≡ R.relation reach.old }
+{
+    grant.rights.has(right) && reach.contains(element, grant.at) && reach.contains(grant.at, class)
+}
+
+/// Whether some grant of the user attribute gives the right on the element in the class.
+fn some_gives<R: Reach>(
+    reach: &mut R,
+    grantee: &Grantee,
+    right: u8,
+    element: ElementId,
+    class: ElementId,
+) -> bool
+    requires right { right < 64 }
+    requires element { IsLive (R.relation reach.old) element }
+    requires class { IsLive (R.relation reach.old) class }
+    requires grantee { GranteeLive (R.relation reach.old) grantee.now }
+    ensures answer { result ≡ list_any (gives (R.relation reach.old).below right element class) grantee.now.grants }
+    ensures same { R.relation reach.new ≡ R.relation reach.old }
+{
+    for i in 0..grantee.grants.len() {
+        if gives(reach, *grantee.grants.at(i), right, element, class) {
+            return true;
+        }
+    }
+    false
+}
+
+/// Whether some association of the user attribute gives the user the right. One question passes by
+/// all of them where the user isn't in it.
+#[tactic(auto, using(crate::proofs::Groups::met_by_group))]
+fn is_met_by<R: Reach>(
+    reach: &mut R,
+    grantee: &Grantee,
+    user: ElementId,
+    right: u8,
+    element: ElementId,
+    class: ElementId,
+) -> bool
+    requires right { right < 64 }
+    requires user { IsLive (R.relation reach.old) user }
+    requires element { IsLive (R.relation reach.old) element }
+    requires class { IsLive (R.relation reach.old) class }
+    requires grantee { GranteeLive (R.relation reach.old) grantee.now }
+    ensures answer { result ≡ is_met (R.relation reach.old).below (of_grantee grantee.now) user right element class }
+    ensures same { R.relation reach.new ≡ R.relation reach.old }
+{
+    reach.contains(user, grantee.ua) && some_gives(reach, grantee, right, element, class)
+}
+
+/// Whether some association gives the user the right on the element in the class.
+fn is_met<R: Reach, G: Grants>(
+    reach: &mut R,
+    grants: &G,
+    user: ElementId,
+    right: u8,
+    element: ElementId,
+    class: ElementId,
+) -> bool
+    requires right { right < 64 }
+    requires user { IsLive (R.relation reach.old) user }
+    requires element { IsLive (R.relation reach.old) element }
+    requires class { IsLive (R.relation reach.old) class }
+    requires grants { EndsLive (R.relation reach.old) (G.grantees grants.now) }
+    ensures answer { result ≡ is_met (R.relation reach.old).below (associations_of (G.grantees grants.now)) user right element class }
+    ensures same { R.relation reach.new ≡ R.relation reach.old }
+{
+    for i in 0..grants.len() {
+        if is_met_by(reach, grants.at(i), user, right, element, class) {
+            return true;
+        }
+    }
+    false
+}
+
+/// The first class that contains the element and in which no association gives the user the right.
+fn lacking<R: Reach, G: Grants>(
+    reach: &mut R,
+    grants: &G,
+    classes: &ClassList,
+    user: ElementId,
+    right: u8,
+    element: ElementId,
+) -> Option<ElementId>
+    requires right { right < 64 }
+    requires user { IsLive (R.relation reach.old) user }
+    requires element { IsLive (R.relation reach.old) element }
+    requires classes { AllLive (R.relation reach.old) classes.now }
+    requires grants { EndsLive (R.relation reach.old) (G.grantees grants.now) }
+    ensures answer { result ≡ lacking (R.relation reach.old).below (associations_of (G.grantees grants.now)) classes.now user right element }
+    ensures same { R.relation reach.new ≡ R.relation reach.old }
+{
+    for i in 0..classes.len() {
+        let class = *classes.at(i);
+        if reach.contains(element, class) && !is_met(reach, grants, user, right, element, class) {
+            return Some(class);
+        }
+    }
+    None
+}
+
+/// Whether the user has the right on the element: in each of the classes that contain the element
+/// some association gives it. The right is a bit; `classes` are all policy classes.
+///
+/// Takes no memory. For each class that contains the element, each user attribute with associations
+/// costs one question of containment, and more only where it contains the user.
+pub fn privilege<R: Reach, G: Grants>(
+    reach: &mut R,
+    grants: &G,
+    classes: &ClassList,
+    user: ElementId,
+    right: u8,
+    element: ElementId,
+) -> bool
+    requires right { right < 64 }
+    requires user { IsLive (R.relation reach.old) user }
+    requires element { IsLive (R.relation reach.old) element }
+    requires classes { AllLive (R.relation reach.old) classes.now }
+    requires grants { EndsLive (R.relation reach.old) (G.grantees grants.now) }
+    ensures answer { result ≡ privilege (R.relation reach.old).below (associations_of (G.grantees grants.now)) classes.now user right element }
+    ensures same { R.relation reach.new ≡ R.relation reach.old }
+{
+    lacking(reach, grants, classes, user, right, element).is_none()
+}
+
+/// Whether the user may use the right on the element, and if not, why. The right is a bit;
+/// `classes` are all policy classes, by rising number, so that the reason is the lowest one.
+///
+/// Takes no memory, and costs what [`privilege`] does.
+pub fn decide<R: Reach, G: Grants>(
+    reach: &mut R,
+    grants: &G,
+    classes: &ClassList,
+    user: ElementId,
+    right: u8,
+    element: ElementId,
+) -> Verdict
+    requires right { right < 64 }
+    requires user { IsLive (R.relation reach.old) user }
+    requires element { IsLive (R.relation reach.old) element }
+    requires classes { AllLive (R.relation reach.old) classes.now }
+    requires grants { EndsLive (R.relation reach.old) (G.grantees grants.now) }
+    ensures answer { result ≡ decision (R.relation reach.old).below (associations_of (G.grantees grants.now)) classes.now user right element }
+    ensures same { R.relation reach.new ≡ R.relation reach.old }
+{
+    match lacking(reach, grants, classes, user, right, element) {
+        Some(class) => Verdict::NoClass(class),
+        None => Verdict::Granted,
+    }
+}

@@ -1,0 +1,10 @@
+pub mod Created
+pub mod Edits
+pub mod Found
+pub mod Linking
+pub mod Lists
+pub mod Nexts
+pub mod Pairs
+pub mod Placing
+pub mod Removing
+pub mod Shown

@@ -1,0 +1,9 @@
+-- The table as callers see it.
+use Rattle.std.specs.Prelude.{ℕ, List}
+use Rattle.pm_model.specs.declared.elements.Element.{Element}
+
+pub record Listed : Type 0 where
+  -- the live elements, by rising number
+  pub elements : List Element
+  -- the assignments, in order of creation
+  pub assigned : List (ℕ × ℕ)

@@ -1,0 +1,18 @@
+//! The table of policy elements and assignments.
+#![tactic(auto)]
+
+mod checks;
+mod errors;
+mod kinds;
+mod links;
+mod names;
+mod places;
+mod removal;
+mod slots;
+mod table;
+
+pub use errors::{ElementsError, change_error};
+pub use table::Elements;
+
+#[cfg(test)]
+mod tests;

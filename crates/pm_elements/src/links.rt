@@ -1,0 +1,96 @@
+//! Assignments are written in two places: the pairs, and the slots of both ends.
+
+ghost use Rattle.std.specs.Prelude.{◌≡◌, ◌==◌, ◌<◌, ◌^◌, ◌-◌, ◌++◌, ◌∷◌, [], IsSome, OnOk, OnErr, filter, not};
+ghost use Rattle.pm_model.specs.Effect.{is_pair};
+ghost use Rattle.pm_elements.specs.Slots.{slot_at, children_of, edited, with_parent, without_parent, with_child, without_child, linked, unlinked};
+
+use crate::slots::Slot;
+use pm_model::{ElementId, ItemList, Memory};
+
+/// Notes in the slot of x that x is assigned to y.
+#[tactic(auto, using(crate::proofs::Edits::edited_taken))]
+fn add_parent(slots: &mut Vec<Option<Slot>>, x: ElementId, y: ElementId) -> Result<(), Memory>
+    requires { IsSome (slot_at slots.old.items x) }
+    ensures ok { OnOk result (slots.new.items ≡ edited (with_parent y) x slots.old.items) }
+    ensures err { OnErr result (slots.new.items ≡ slots.old.items) }
+{
+    let slot = slots[x.number() as usize].as_mut().unwrap();
+    slot.parents.push(y)
+}
+
+/// Takes y out of the list.
+fn take_out(parents: &mut ItemList<ElementId>, y: ElementId)
+    ensures { parents.new ≡ filter (λ z. not (z == y)) parents.old }
+{
+    parents.retain(|parent| *parent != y);
+}
+
+/// Notes in the slot of x that x is no more assigned to y.
+#[tactic(auto, using(crate::proofs::Edits::edited_taken))]
+fn drop_parent(slots: &mut Vec<Option<Slot>>, x: ElementId, y: ElementId)
+    requires { IsSome (slot_at slots.old.items x) }
+    ensures { slots.new.items ≡ edited (without_parent y) x slots.old.items }
+{
+    let slot = slots[x.number() as usize].as_mut().unwrap();
+    take_out(&mut slot.parents, y);
+}
+
+/// Counts one more element that is assigned to y.
+#[tactic(auto, using(crate::proofs::Edits::edited_taken))]
+pub(crate) fn add_child(slots: &mut Vec<Option<Slot>>, y: ElementId)
+    requires live { IsSome (slot_at slots.old.items y) }
+    requires few { children_of (slot_at slots.old.items y) < 2 ^ 32 - 1 }
+    ensures { slots.new.items ≡ edited with_child y slots.old.items }
+{
+    let slot = slots[y.number() as usize].as_mut().unwrap();
+    slot.children += 1;
+}
+
+/// Counts one element less that is assigned to y.
+#[tactic(auto, using(crate::proofs::Edits::edited_taken))]
+pub(crate) fn drop_child(slots: &mut Vec<Option<Slot>>, y: ElementId)
+    requires { IsSome (slot_at slots.old.items y) }
+    ensures { slots.new.items ≡ edited without_child y slots.old.items }
+{
+    let slot = slots[y.number() as usize].as_mut().unwrap();
+    slot.children = slot.children.saturating_sub(1);
+}
+
+/// Assigns x to y. On Memory nothing is changed.
+pub(crate) fn link(
+    slots: &mut Vec<Option<Slot>>,
+    pairs: &mut Vec<(ElementId, ElementId)>,
+    x: ElementId,
+    y: ElementId,
+) -> Result<(), Memory>
+    requires x_live { IsSome (slot_at slots.old.items x) }
+    requires y_live { IsSome (slot_at slots.old.items y) }
+    requires few { children_of (slot_at slots.old.items y) < 2 ^ 32 - 1 }
+    ensures slots { OnOk result (slots.new.items ≡ linked x y slots.old.items) }
+    ensures pairs { OnOk result (pairs.new.items ≡ pairs.old.items ++ (x, y) ∷ []) }
+    ensures slots_same { OnErr result (slots.new.items ≡ slots.old.items) }
+    ensures pairs_same { OnErr result (pairs.new.items ≡ pairs.old.items) }
+{
+    pairs.reserve(1)?;
+    add_parent(slots, x, y)?;
+    add_child(slots, y);
+    pairs.push_reserved((x, y));
+    Ok(())
+}
+
+/// Takes the assignment of x to y away.
+pub(crate) fn unlink(
+    slots: &mut Vec<Option<Slot>>,
+    pairs: &mut Vec<(ElementId, ElementId)>,
+    x: ElementId,
+    y: ElementId,
+)
+    requires x_live { IsSome (slot_at slots.old.items x) }
+    requires y_live { IsSome (slot_at slots.old.items y) }
+    ensures slots { slots.new.items ≡ unlinked x y slots.old.items }
+    ensures pairs { pairs.new.items ≡ filter (λ pair. not (is_pair x y pair)) pairs.old.items }
+{
+    drop_parent(slots, x, y);
+    drop_child(slots, y);
+    pairs.retain(|pair| !(pair.0 == x && pair.1 == y));
+}

@@ -1,0 +1,248 @@
+//! The table of a small policy, step by step, with answers worked out by hand.
+
+ghost use Rattle.pm_model.specs.Formed.{IsLive};
+
+use crate::{Elements, ElementsError};
+use pm_model::{ElementId, Kind, Memory, Name, Parents, Reach, Table};
+use std::alloc::Global;
+use std::process::Abort;
+use std::test::Fail;
+
+#[derive(Drop)]
+enum Call {
+    Class,
+    User,
+    Ua,
+    Object,
+    Oa,
+    Assign,
+    Deassign,
+    Remove,
+}
+
+fn named(rt: &impl Abort, text: &str) -> Name {
+    Name::new(text.as_bytes()).expect(rt, "a name")
+}
+
+fn live_named(rt: &impl Abort, table: &Elements, text: &str) -> ElementId
+    ensures { IsLive table.now.elements result }
+{
+    let id = table.find(named(rt, text)).expect(rt, "a live element");
+    assert!(rt; table.live(id));
+    id
+}
+
+fn create(
+    rt: &impl Abort,
+    table: &mut Elements,
+    kind: Kind,
+    text: &str,
+    into: &str,
+) -> Result<(), ElementsError> {
+    let container = live_named(rt, table, into);
+    table.create(kind, named(rt, text), Some(container))?;
+    Ok(())
+}
+
+fn assign(
+    rt: &impl Abort,
+    table: &mut Elements,
+    from: &str,
+    to: &str,
+) -> Result<(), ElementsError> {
+    let x = live_named(rt, table, from);
+    let y = live_named(rt, table, to);
+    table.assign(x, y)
+}
+
+fn deassign(
+    rt: &impl Abort,
+    table: &mut Elements,
+    from: &str,
+    to: &str,
+) -> Result<(), ElementsError> {
+    let x = live_named(rt, table, from);
+    let y = live_named(rt, table, to);
+    table.deassign(x, y)
+}
+
+fn remove(rt: &impl Abort, table: &mut Elements, text: &str) -> Result<(), ElementsError> {
+    let id = live_named(rt, table, text);
+    table.remove(id)
+}
+
+fn apply(
+    rt: &impl Abort,
+    table: &mut Elements,
+    call: Call,
+    first: &str,
+    second: &str,
+) -> Result<(), ElementsError> {
+    match call {
+        Call::Class => {
+            table.add(Kind::Pc, named(rt, first))?;
+            Ok(())
+        }
+        Call::User => create(rt, table, Kind::User, first, second),
+        Call::Ua => create(rt, table, Kind::Ua, first, second),
+        Call::Object => create(rt, table, Kind::Object, first, second),
+        Call::Oa => create(rt, table, Kind::Oa, first, second),
+        Call::Assign => assign(rt, table, first, second),
+        Call::Deassign => deassign(rt, table, first, second),
+        Call::Remove => remove(rt, table, first),
+    }
+}
+
+// Classes `files` 3; `staff` 4 and `docs` 5 in it; users `ann` 6 and `bob` 7; the object `memo` 8;
+// `team` 9 in `staff`.
+fn policy(rt: &impl Abort, alloc: Global) -> Result<Elements, ElementsError> {
+    let mut table = Elements::opening(alloc)?;
+    for (call, first, second) in [
+        (Call::Class, "files", ""),
+        (Call::Ua, "staff", "files"),
+        (Call::Oa, "docs", "files"),
+        (Call::User, "ann", "staff"),
+        (Call::User, "bob", "staff"),
+        (Call::Object, "memo", "docs"),
+        (Call::Ua, "team", "staff"),
+    ] {
+        apply(rt, &mut table, call, first, second)?;
+    }
+    Ok(table)
+}
+
+fn word(answer: Result<(), ElementsError>) -> &'static str {
+    match answer {
+        Ok(()) => "ok",
+        Err(ElementsError::BadKinds) => "bad kinds",
+        Err(ElementsError::NameTaken) => "name taken",
+        Err(ElementsError::Already) => "already",
+        Err(ElementsError::Absent) => "absent",
+        Err(ElementsError::Cycle { .. }) => "cycle",
+        Err(ElementsError::Occupied) => "occupied",
+        Err(ElementsError::LastContainer) => "last container",
+        Err(ElementsError::Full(_)) => "full",
+        Err(ElementsError::Memory) => "memory",
+    }
+}
+
+#[test]
+fn changes_and_refusals(rt: HostRuntime) -> Result<(), Fail> {
+    let mut table = policy(&rt, rt.alloc())?;
+    for (call, first, second, want) in [
+        (Call::Class, "files", "", "name taken"),
+        (Call::User, "eve", "docs", "bad kinds"),
+        (Call::Object, "team", "docs", "name taken"),
+        (Call::Assign, "staff", "team", "cycle"),
+        (Call::Assign, "staff", "staff", "cycle"),
+        (Call::Assign, "ann", "staff", "already"),
+        (Call::Assign, "staff", "ann", "bad kinds"),
+        (Call::Deassign, "ann", "team", "absent"),
+        (Call::Deassign, "memo", "docs", "last container"),
+        (Call::Remove, "staff", "", "occupied"),
+        (Call::Assign, "ann", "team", "ok"),
+        (Call::Deassign, "ann", "staff", "ok"),
+        (Call::Remove, "team", "", "occupied"),
+        (Call::Remove, "ann", "", "ok"),
+        (Call::Remove, "bob", "", "ok"),
+        (Call::Remove, "team", "", "ok"),
+        (Call::Remove, "staff", "", "ok"),
+    ] {
+        let told = word(apply(&rt, &mut table, call, first, second));
+        assert_eq!(rt; told, want, "{first} {second}");
+    }
+    Ok(())
+}
+
+#[test]
+fn a_hole_is_found_and_filled(rt: HostRuntime) -> Result<(), Fail> {
+    let mut table = policy(&rt, rt.alloc())?;
+    assert_eq!(rt; table.len(), 10);
+    assert_eq!(rt; table.unused(), ElementId(10));
+    remove(&rt, &mut table, "team")?;
+    assert_eq!(rt; table.find(named(&rt, "team")), None);
+    remove(&rt, &mut table, "bob")?;
+    assert_eq!(rt; table.len(), 8);
+    for (from, want) in [(0, Some(ElementId(0))), (7, Some(ElementId(8))), (9, None)] {
+        assert_eq!(rt; table.next(from), want, "from {from}");
+    }
+    let same = table.copy()?;
+    assert_eq!(rt; table.unused(), ElementId(7));
+    create(&rt, &mut table, Kind::Ua, "leads", "staff")?;
+    assert_eq!(rt; table.find(named(&rt, "leads")), Some(ElementId(7)));
+    assert_eq!(rt; same.find(named(&rt, "leads")), None);
+    assert_eq!(rt; same.find(named(&rt, "memo")), Some(ElementId(8)));
+    Ok(())
+}
+
+fn contains(rt: &impl Abort, table: &Elements, first: &str, second: &str) -> Result<bool, Memory> {
+    let x = live_named(rt, table, first);
+    let y = live_named(rt, table, second);
+    let mut paths = table.paths()?;
+    Ok(paths.contains(x, y))
+}
+
+#[test]
+fn containment_by_paths(rt: HostRuntime) -> Result<(), Fail> {
+    let table = policy(&rt, rt.alloc())?;
+    for (first, second, want) in [
+        ("ann", "ann", true),
+        ("ann", "staff", true),
+        ("ann", "files", true),
+        ("files", "ann", false),
+        ("ann", "docs", false),
+        ("memo", "files", true),
+        ("root", "pm", true),
+        ("root", "files", false),
+    ] {
+        assert_eq!(rt;
+            contains(&rt, &table, first, second)?,
+            want,
+            "{first} in {second}"
+        );
+    }
+    Ok(())
+}
+
+#[test]
+fn questions_by_number(rt: HostRuntime) -> Result<(), Fail> {
+    let table = policy(&rt, rt.alloc())?;
+    let team = live_named(&rt, &table, "team");
+    assert_eq!(rt; table.kind(team), Kind::Ua);
+    assert_eq!(rt; table.name(team).bytes(), b"team".as_slice());
+    assert_eq!(rt; table.count(team), 1);
+    assert!(rt; !table.has_children(team));
+    let staff = live_named(&rt, &table, "staff");
+    assert!(rt; table.has_children(staff));
+    let cycle = ElementsError::Cycle {
+        from: staff,
+        to: team,
+    };
+    assert_eq!(rt; table.check_assign(staff, team), Err(cycle));
+    Ok(())
+}
+
+fn class_name(rt: &impl Abort, n: u32) -> Name {
+    let digit = |place: u32| b'0' + (n / place % 10) as u8;
+    let bytes = [
+        b'c',
+        digit(10000),
+        digit(1000),
+        digit(100),
+        digit(10),
+        digit(1),
+    ];
+    Name::new(bytes.as_slice()).expect(rt, "a name")
+}
+
+#[test]
+fn classes_up_to_the_limit(rt: HostRuntime) -> Result<(), Fail> {
+    let mut table = Elements::opening(rt.alloc())?;
+    for n in 0..16381 {
+        table.add(Kind::Pc, class_name(&rt, n))?;
+    }
+    let full = ElementsError::Full(Table::Elements);
+    assert_eq!(rt; table.add(Kind::Pc, class_name(&rt, 20000)), Err(full));
+    assert_eq!(rt; table.len(), 16384);
+    Ok(())
+}

@@ -1,0 +1,41 @@
+ghost use Rattle.std.specs.Prelude.{◌≡◌, ◌↔◌, IfOk, IsTrue, Contains};
+ghost use Rattle.pm_io.specs.Devices.{raised};
+
+use pm_model::Memory;
+use std::alloc::Global;
+use std::marker::Model;
+
+/// Which calls are to fail, by their numbers from 1 on. Contracts see these and the number of calls so far.
+#[derive(Drop)]
+pub(crate) struct Schedule {
+    failing: Vec<u64>,
+    calls: u64,
+}
+
+impl Model for Schedule {
+    ghost use Rattle.pm_io.specs.Devices.{Failures};
+
+    ghost Value = { Failures };
+
+    ghost view = { λ s. record { failing = s.failing.items; calls = s.calls } };
+}
+
+impl Schedule {
+    pub(crate) fn new(alloc: Global, failing: &[u64]) -> Result<Schedule, Memory>
+        ensures { IfOk result (λ s. s ≡ record { failing = failing.now; calls = 0 }) }
+    {
+        Ok(Schedule {
+            failing: Vec::from_slice(alloc, failing)?,
+            calls: 0,
+        })
+    }
+
+    // Counts one more call, and says whether it is to fail.
+    pub(crate) fn next_fails(&mut self) -> bool
+        ensures fails { IsTrue result ↔ Contains self.old.failing self.new.calls }
+        ensures calls { self.new ≡ record self.old { calls = raised self.old.calls } }
+    {
+        self.calls = self.calls.saturating_add(1);
+        self.failing.contains(&self.calls)
+    }
+}

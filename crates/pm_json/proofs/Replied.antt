@@ -1,0 +1,85 @@
+-- What a reply's line says, by a look-up of its members.
+use Rattle.std.proofs.Common.{ℕ, List, [], ◌∷◌, Option, None, Some, option_and_then, option_map, if◌then◌else◌, bytes_eq}
+use Rattle.serde_json.specs.Data.{Data}
+use Rattle.serde_json.specs.Find.{as_str}
+use Rattle.pm_model.specs.Asked.{name_form, whole_form}
+use Rattle.pm_model.specs.Words.{key_text, word_text}
+use Rattle.pm_model.specs.declared.words.Key.{Key}
+use Rattle.pm_model.specs.declared.words.Key.TheVariants as key
+use Rattle.pm_model.specs.declared.words.Word.{Word}
+use Rattle.pm_model.specs.declared.words.Word.TheVariants as word
+use Rattle.pm_model.specs.declared.lines.BadLine.TheVariants.{TooLong, NotJson, NotRequest, UnknownCommand, BadField}
+use Rattle.pm_model.specs.declared.lines.Field.{Field}
+use Rattle.pm_model.specs.declared.lines.Field.TheVariants as field
+use Rattle.pm_model.specs.declared.replies.Refusal.TheVariants as refusal
+use Rattle.pm_model.specs.declared.replies.Table.{Table}
+use Rattle.pm_model.specs.declared.replies.Table.TheVariants as table
+use Rattle.pm_model.specs.declared.replies.Reply.TheVariants.{Done, Granted, Bad, Ahead, Refused}
+use Rattle.pm_json.specs.Shown.{Shown, plain, denied}
+
+pub record Said : Type 0 where
+  pub id : Option ℕ
+  pub version : ℕ
+  pub shown : Shown
+
+-- what stands beside the word, where it is one of these
+abbrev pub beside : {A : Type 0} → List (Word × A) → List ℕ → Option A
+beside [] w = None
+beside (p ∷ ps) w = if bytes_eq w (word_text p.0) then Some p.1 else beside ps w
+
+abbrev pub field_words : List (Word × Field)
+field_words =
+    (word.Id, field.Id) ∷ (word.After, field.After) ∷ (word.Proc, field.Proc) ∷ (word.Name, field.Name) ∷ (word.Into, field.Into)
+    ∷ (word.From, field.From) ∷ (word.To, field.To) ∷ (word.Ua, field.Ua) ∷ (word.At, field.At) ∷ (word.Target, field.Target)
+    ∷ (word.Right, field.Right) ∷ (word.Rights, field.Rights) ∷ []
+
+abbrev pub table_words : List (Word × Table)
+table_words =
+    (word.Elements, table.Elements) ∷ (word.Assignments, table.Assignments) ∷ (word.Associations, table.Associations)
+    ∷ (word.History, table.History) ∷ []
+
+module _ (look : List ℕ → Option Data) where
+  abbrev pub text_at : Key → Option (List ℕ)
+  text_at k = option_and_then as_str (look (key_text k))
+
+  abbrev pub name_at : Key → Option (List ℕ)
+  name_at k = option_and_then name_form (look (key_text k))
+
+  abbrev pub bad_field : Option Shown
+  bad_field = option_map (λ f. plain (Bad (BadField f))) (option_and_then (beside field_words) (text_at key.Field))
+
+  abbrev pub unknown_name : Option Shown
+  unknown_name = option_map (λ name. plain (Refused (refusal.UnknownName name))) (name_at key.Name)
+
+  abbrev pub denial : Option Shown
+  denial =
+      option_and_then (λ right. option_and_then (λ target. option_map (λ pc. denied right target pc)
+      (name_at key.Class)) (name_at key.Target)) (name_at key.Right)
+
+  abbrev pub full : Option Shown
+  full = option_map (λ t. plain (Refused (refusal.Full t))) (option_and_then (beside table_words) (text_at key.Table))
+
+  abbrev pub ok_words : List (Word × Shown)
+  ok_words = (word.Done, plain Done) ∷ (word.Granted, plain Granted) ∷ []
+
+  abbrev pub no_words : List (Word × Option Shown)
+  no_words =
+      (word.TooLong, Some (plain (Bad TooLong))) ∷ (word.NotJson, Some (plain (Bad NotJson)))
+      ∷ (word.NotRequest, Some (plain (Bad NotRequest))) ∷ (word.UnknownCommand, Some (plain (Bad UnknownCommand)))
+      ∷ (word.BadField, bad_field) ∷ (word.Ahead, Some (plain Ahead))
+      ∷ (word.UnknownProcess, Some (plain (Refused refusal.UnknownProcess))) ∷ (word.UnknownName, unknown_name)
+      ∷ (word.Denied, denial) ∷ (word.BadKinds, Some (plain (Refused refusal.BadKinds)))
+      ∷ (word.NameTaken, Some (plain (Refused refusal.NameTaken))) ∷ (word.Already, Some (plain (Refused refusal.Already)))
+      ∷ (word.Absent, Some (plain (Refused refusal.Absent))) ∷ (word.Cycle, Some (plain (Refused refusal.Cycle)))
+      ∷ (word.Occupied, Some (plain (Refused refusal.Occupied))) ∷ (word.LastContainer, Some (plain (Refused refusal.LastContainer)))
+      ∷ (word.Builtin, Some (plain (Refused refusal.Builtin))) ∷ (word.Full, full) ∷ []
+
+  -- by the word at `no`, or else at `ok`
+  abbrev pub shown_from : Option (List ℕ) → Option Shown
+  shown_from None = option_and_then (beside ok_words) (text_at key.Ok)
+  shown_from (Some w) = option_and_then (λ shown. shown) (beside no_words w)
+
+  abbrev pub said : Option Said
+  said =
+      option_and_then (λ shown. option_map (λ version. record { id = option_and_then whole_form (look (key_text key.Id)); version = version; shown = shown })
+      (option_and_then whole_form (look (key_text key.V)))) (shown_from (text_at key.No))

@@ -1,0 +1,243 @@
+-- A reply is what the members of its line say.
+use Rattle.std.proofs.Common.{take, length, length-append, ◌≡◌, ℕ, ◌<◌, ◌^◌, List, [], ◌∷◌, ◌++◌, true, nat_lt, IsTrue, Option, None, Some, IfSome, option_and_then, unwrap_or, refl, sym, ap, ap₂, ◌∙◌, arith, lt-ltb}
+use Rattle.std.proofs.Math.Seq.{take-append_seam}
+use Rattle.std.proofs.lemmas.Bool.{and_parts, and_from}
+use Rattle.std.specs.List.{list_all}
+use Rattle.json.proofs.Printed.Utf8.{are_ascii, IsUtf8-are_ascii}
+use Rattle.serde_json.specs.Data.{Data, object}
+use Rattle.serde_json.specs.Read.{read}
+use Rattle.serde_json.specs.Written.{compact_text}
+use Rattle.pm_model.specs.Asked.{looking, whole_form}
+use Rattle.pm_model.specs.Name.{is_name, is_name_byte}
+use Rattle.pm_model.specs.Object.{present, whole, whole_if, texted}
+use Rattle.pm_model.specs.Text.{text, front, no_front, said, field_word, table_word, with_version}
+use Rattle.pm_model.specs.Words.{key_text, word_text}
+use Rattle.pm_model.specs.declared.words.Word.{Word}
+use Rattle.pm_model.specs.declared.words.Word.TheVariants as word
+use Rattle.pm_model.specs.declared.lines.BadLine.{BadLine}
+use Rattle.pm_model.specs.declared.lines.BadLine.TheVariants.{TooLong, NotJson, NotRequest, UnknownCommand, BadField}
+use Rattle.pm_model.specs.declared.lines.Field.TheVariants as field
+use Rattle.pm_model.specs.declared.replies.Refusal.{Refusal}
+use Rattle.pm_model.specs.declared.replies.Refusal.TheVariants as refusal
+use Rattle.pm_model.specs.declared.replies.Table.TheVariants as table
+use Rattle.pm_model.specs.declared.replies.Reply.{Reply}
+use Rattle.pm_model.specs.declared.replies.Reply.TheVariants.{Done, Granted, Bad, Ahead, Refused}
+use Rattle.pm_model.specs.declared.replies.Reason.{Reason}
+use Rattle.pm_model.specs.declared.replies.Reason.TheVariants.{Class}
+use Rattle.pm_json.specs.Printable.{names_in, names_in_refusal, names_in_reason, ShowsNames, IsPrintable}
+use Rattle.pm_json.specs.Shown.{Shown, shown}
+use Rattle.pm_json.proofs.Bounds.{plain-word}
+use Rattle.pm_json.proofs.Fair.{read-compact}
+use Rattle.pm_json.proofs.Fields.{or_else, in_order, ValueFair, ValuesFair, MembersFair-present, shallow-present, finding, looks}
+use Rattle.pm_json.proofs.Members.{plain-name}
+use Rattle.pm_json.proofs.Replied as replied
+
+-- ---- what the members say
+
+or_none : (o : Option Data) → or_else o None ≡ o
+or_none None = refl
+or_none (Some d) = refl
+
+number_told : (n : Option ℕ) → option_and_then whole_form (whole_if n) ≡ n
+number_told None = refl
+number_told (Some n) = refl
+
+abbrev said_as : Option ℕ → ℕ → Shown → replied.Said
+said_as id v what = record { id = id; version = v; shown = what }
+
+abbrev members : Option ℕ → ℕ → (ℕ → List ℕ) → Reply → List (List ℕ × Option Data)
+members id v names reply = with_version v (front (record { id = id }) names reply)
+
+abbrev Told : Option ℕ → ℕ → (ℕ → List ℕ) → Reply → Type 0
+Told id v names reply = replied.said (finding (members id v names reply)) ≡ Some (said_as id v (shown names reply))
+
+module _ (id : Option ℕ) (v : ℕ) (names : ℕ → List ℕ) where
+  told_bad : (bad : BadLine) → Told id v names (Bad bad)
+  unfolding key_text word_text
+  told_bad TooLong = rw (or_none (whole_if id), number_told id) refl
+  told_bad NotJson = rw (or_none (whole_if id), number_told id) refl
+  told_bad NotRequest = rw (or_none (whole_if id), number_told id) refl
+  told_bad UnknownCommand = rw (or_none (whole_if id), number_told id) refl
+  told_bad (BadField field.Id) = rw (or_none (whole_if id), number_told id) refl
+  told_bad (BadField field.After) = rw (or_none (whole_if id), number_told id) refl
+  told_bad (BadField field.Proc) = rw (or_none (whole_if id), number_told id) refl
+  told_bad (BadField field.Name) = rw (or_none (whole_if id), number_told id) refl
+  told_bad (BadField field.Into) = rw (or_none (whole_if id), number_told id) refl
+  told_bad (BadField field.From) = rw (or_none (whole_if id), number_told id) refl
+  told_bad (BadField field.To) = rw (or_none (whole_if id), number_told id) refl
+  told_bad (BadField field.Ua) = rw (or_none (whole_if id), number_told id) refl
+  told_bad (BadField field.At) = rw (or_none (whole_if id), number_told id) refl
+  told_bad (BadField field.Target) = rw (or_none (whole_if id), number_told id) refl
+  told_bad (BadField field.Right) = rw (or_none (whole_if id), number_told id) refl
+  told_bad (BadField field.Rights) = rw (or_none (whole_if id), number_told id) refl
+
+  told_denied : (right : List ℕ) (target : ℕ) (reason : Reason) → ShowsNames (right ∷ names target ∷ names_in_reason names reason)
+      → Told id v names (Refused (refusal.Denied right target reason))
+  unfolding key_text word_text
+  told_denied right target (Class pc) h =
+      let r = h.0 in let t = h.1.0 in let p = h.1.1.0 in
+      rw (or_none (whole_if id), number_told id, r, t, p) refl
+
+  told_refused : (why : Refusal) → ShowsNames (names_in_refusal names why) → Told id v names (Refused why)
+  unfolding key_text word_text
+  told_refused refusal.UnknownProcess h = rw (or_none (whole_if id), number_told id) refl
+  told_refused refusal.BadKinds h = rw (or_none (whole_if id), number_told id) refl
+  told_refused refusal.NameTaken h = rw (or_none (whole_if id), number_told id) refl
+  told_refused refusal.Already h = rw (or_none (whole_if id), number_told id) refl
+  told_refused refusal.Absent h = rw (or_none (whole_if id), number_told id) refl
+  told_refused refusal.Cycle h = rw (or_none (whole_if id), number_told id) refl
+  told_refused refusal.Occupied h = rw (or_none (whole_if id), number_told id) refl
+  told_refused refusal.LastContainer h = rw (or_none (whole_if id), number_told id) refl
+  told_refused refusal.Builtin h = rw (or_none (whole_if id), number_told id) refl
+  told_refused (refusal.UnknownName name) h = let n = h.0 in rw (or_none (whole_if id), number_told id, n) refl
+  told_refused (refusal.Denied right target reason) h = told_denied right target reason h
+  told_refused (refusal.Full table.Elements) h = rw (or_none (whole_if id), number_told id) refl
+  told_refused (refusal.Full table.Assignments) h = rw (or_none (whole_if id), number_told id) refl
+  told_refused (refusal.Full table.Associations) h = rw (or_none (whole_if id), number_told id) refl
+  told_refused (refusal.Full table.History) h = rw (or_none (whole_if id), number_told id) refl
+
+  told : (reply : Reply) → ShowsNames (names_in names reply) → Told id v names reply
+  unfolding key_text word_text
+  told Done h = rw (or_none (whole_if id), number_told id) refl
+  told Granted h = rw (or_none (whole_if id), number_told id) refl
+  told (Bad bad) h = told_bad bad
+  told Ahead h = rw (or_none (whole_if id), number_told id) refl
+  told (Refused why) h = told_refused why h
+
+-- ---- the members are fair
+
+ascii_byte : (x : ℕ) → is_name_byte x ≡ true → nat_lt x 128 ≡ true
+ascii_byte x h = lt-ltb x 128 (grind arith)
+
+ascii_plain : (s : List ℕ) → list_all is_name_byte s ≡ true → are_ascii s ≡ true
+ascii_plain [] h = refl
+ascii_plain (x ∷ s) h =
+    let p = and_parts (is_name_byte x) (list_all is_name_byte s) h in
+    and_from (nat_lt x 128) (are_ascii s) (ascii_byte x p.0) (ascii_plain s p.1)
+
+fair-plain : (s : List ℕ) → list_all is_name_byte s ≡ true → ValueFair (texted s)
+fair-plain s h = (IsUtf8-are_ascii s (ascii_plain s h), omega arith)
+
+fair-said : (w : Word) → ValueFair (said w)
+fair-said w = fair-plain (word_text w) (plain-word w)
+
+fair-number : (n : Option ℕ) → IfSome n (λ n. n < 2 ^ 64) → ValueFair (whole_if n)
+fair-number None h = tt
+fair-number (Some n) h = (h, omega arith)
+
+module _ (id : Option ℕ) (v : ℕ) (names : ℕ → List ℕ) where
+  ordered_bad : (bad : BadLine) → in_order (members id v names (Bad bad)) ≡ true
+  unfolding key_text
+  ordered_bad TooLong = refl
+  ordered_bad NotJson = refl
+  ordered_bad NotRequest = refl
+  ordered_bad UnknownCommand = refl
+  ordered_bad (BadField f) = refl
+
+  ordered_refused : (why : Refusal) → in_order (members id v names (Refused why)) ≡ true
+  unfolding key_text
+  ordered_refused refusal.UnknownProcess = refl
+  ordered_refused refusal.BadKinds = refl
+  ordered_refused refusal.NameTaken = refl
+  ordered_refused refusal.Already = refl
+  ordered_refused refusal.Absent = refl
+  ordered_refused refusal.Cycle = refl
+  ordered_refused refusal.Occupied = refl
+  ordered_refused refusal.LastContainer = refl
+  ordered_refused refusal.Builtin = refl
+  ordered_refused (refusal.UnknownName name) = refl
+  ordered_refused (refusal.Denied right target reason) = refl
+  ordered_refused (refusal.Full t) = refl
+
+  ordered : (reply : Reply) → in_order (members id v names reply) ≡ true
+  unfolding key_text
+  ordered Done = refl
+  ordered Granted = refl
+  ordered (Bad bad) = ordered_bad bad
+  ordered Ahead = refl
+  ordered (Refused why) = ordered_refused why
+
+-- the numbers of a line, and the names of elements
+module _ (id : Option ℕ) (v : ℕ) (names : ℕ → List ℕ) (i : IfSome id (λ n. n < 2 ^ 64)) (n : v < 2 ^ 64) where
+  fair_version : ValueFair (whole v)
+  fair_version = (n, omega arith)
+
+  fair-name : (s : List ℕ) → IsTrue (is_name s) → ValueFair (texted s)
+  fair-name s h = fair-plain s (plain-name s h)
+
+  fair_no : (w : Word) → ValuesFair (with_version v (no_front (record { id = id }) w))
+  fair_no w = (fair-number id i, (fair-said w, (fair_version, tt)))
+
+  fair_bad : (bad : BadLine) → ValuesFair (members id v names (Bad bad))
+  fair_bad TooLong = fair_no word.TooLong
+  fair_bad NotJson = fair_no word.NotJson
+  fair_bad NotRequest = fair_no word.NotRequest
+  fair_bad UnknownCommand = fair_no word.UnknownCommand
+  fair_bad (BadField f) = (fair-said (field_word f), fair_no word.BadField)
+
+  fair_denied : (right : List ℕ) (target : ℕ) (reason : Reason) → ShowsNames (right ∷ names target ∷ names_in_reason names reason)
+      → ValuesFair (members id v names (Refused (refusal.Denied right target reason)))
+  fair_denied right target (Class pc) h =
+      (fair-name (names pc) h.1.1.0, (fair-number id i, (fair-said word.Denied, (fair-name right h.0, (fair-name (names target) h.1.0, (fair_version, tt))))))
+
+  fair_refused : (why : Refusal) → ShowsNames (names_in_refusal names why) → ValuesFair (members id v names (Refused why))
+  fair_refused refusal.UnknownProcess h = fair_no word.UnknownProcess
+  fair_refused refusal.BadKinds h = fair_no word.BadKinds
+  fair_refused refusal.NameTaken h = fair_no word.NameTaken
+  fair_refused refusal.Already h = fair_no word.Already
+  fair_refused refusal.Absent h = fair_no word.Absent
+  fair_refused refusal.Cycle h = fair_no word.Cycle
+  fair_refused refusal.Occupied h = fair_no word.Occupied
+  fair_refused refusal.LastContainer h = fair_no word.LastContainer
+  fair_refused refusal.Builtin h = fair_no word.Builtin
+  fair_refused (refusal.UnknownName name) h = (fair-number id i, (fair-name name h.0, (fair-said word.UnknownName, (fair_version, tt))))
+  fair_refused (refusal.Denied right target reason) h = fair_denied right target reason h
+  fair_refused (refusal.Full t) h = (fair-number id i, (fair-said word.Full, (fair-said (table_word t), (fair_version, tt))))
+
+  fair : (reply : Reply) → ShowsNames (names_in names reply) → ValuesFair (members id v names reply)
+  fair Done h = (fair-number id i, (fair-said word.Done, (fair_version, tt)))
+  fair Granted h = (fair-number id i, (fair-said word.Granted, (fair_version, tt)))
+  fair (Bad bad) h = fair_bad bad
+  fair Ahead h = fair_no word.Ahead
+  fair (Refused why) h = fair_refused why h
+
+-- ---- the whole line
+
+abbrev data_of : Option ℕ → ℕ → (ℕ → List ℕ) → Reply → Data
+data_of id v names reply = object (present (members id v names reply))
+
+-- what a text that may have been read says
+abbrev said_in : Option Data → Option replied.Said
+said_in o = option_and_then (λ d. replied.said (looking d)) o
+
+module _ (id : Option ℕ) (v : ℕ) (names : ℕ → List ℕ) (reply : Reply) (p : IsPrintable id v names reply) where
+  -- the line without its line feed is read as the members
+  read-line : read (compact_text (data_of id v names reply)) ≡ Some (data_of id v names reply)
+  read-line =
+      let values = fair id v names p.id_fits p.version_fits reply p.named in
+      let shallow = shallow-present (members id v names reply) values in
+      read-compact (data_of id v names reply) (MembersFair-present (members id v names reply) (ordered id v names reply) values) (omega (arith, shallow))
+
+  said-line : said_in (read (compact_text (data_of id v names reply))) ≡ Some (said_as id v (shown names reply))
+  said-line = ap said_in read-line ∙ ap replied.said (looks (members id v names reply)) ∙ told id v names reply p.named
+
+-- what stands before a line feed
+cut_feed : (xs ys : List ℕ) → xs ++ 10 ∷ [] ≡ ys ++ 10 ∷ [] → xs ≡ ys
+cut_feed xs ys e =
+    let whole = ap length e in
+    let a = length-append xs (10 ∷ []) in
+    let b = length-append ys (10 ∷ []) in
+    let n : length xs ≡ length ys = omega (arith, whole, a, b) in
+    sym (take-append_seam xs (10 ∷ [])) ∙ ap₂ take n e ∙ take-append_seam ys (10 ∷ [])
+
+same_said : (id jd : Option ℕ) (v w : ℕ) (names others : ℕ → List ℕ) (reply other : Reply) → IsPrintable id v names reply → IsPrintable jd w others other
+    → compact_text (data_of id v names reply) ≡ compact_text (data_of jd w others other) → Some (said_as id v (shown names reply)) ≡ Some (said_as jd w (shown others other))
+same_said id jd v w names others reply other p q e =
+    sym (said-line id v names reply p) ∙ ap (λ t. said_in (read t)) e ∙ said-line jd w others other q
+
+pub line_has_one_meaning : (id jd : Option ℕ) (v w : ℕ) (names others : ℕ → List ℕ) (reply other : Reply) → IsPrintable id v names reply → IsPrintable jd w others other
+    → text id v names reply ≡ text jd w others other → (id ≡ jd) × (v ≡ w) × (shown names reply ≡ shown others other)
+line_has_one_meaning id jd v w names others reply other p q e =
+    let same = same_said id jd v w names others reply other p q (cut_feed (compact_text (data_of id v names reply)) (compact_text (data_of jd w others other)) e) in
+    let r = ap (λ o. unwrap_or o (said_as id v (shown names reply))) same in
+    (ap (λ (s : replied.Said). s.id) r, ap (λ (s : replied.Said). s.version) r, ap (λ (s : replied.Said). s.shown) r)

@@ -1,0 +1,33 @@
+-- What may be printed as a reply's line.
+use Rattle.std.specs.Prelude.{ℕ, ◌<◌, ◌^◌, List, [], ◌∷◌, Option, IfSome, IsTrue}
+use Rattle.pm_model.specs.Formed.{Each}
+use Rattle.pm_model.specs.Name.{is_name}
+use Rattle.pm_model.specs.declared.replies.Reason.{Reason}
+use Rattle.pm_model.specs.declared.replies.Reason.TheVariants.{Class}
+use Rattle.pm_model.specs.declared.replies.Refusal.{Refusal}
+use Rattle.pm_model.specs.declared.replies.Refusal.TheVariants.{UnknownName, Denied}
+use Rattle.pm_model.specs.declared.replies.Reply.{Reply}
+use Rattle.pm_model.specs.declared.replies.Reply.TheVariants.{Refused}
+
+abbrev pub names_in_reason : (ℕ → List ℕ) → Reason → List (List ℕ)
+names_in_reason names (Class pc) = names pc ∷ []
+
+abbrev pub names_in_refusal : (ℕ → List ℕ) → Refusal → List (List ℕ)
+names_in_refusal names (UnknownName name) = name ∷ []
+names_in_refusal names (Denied right target reason) = right ∷ names target ∷ names_in_reason names reason
+names_in_refusal names _ = []
+
+-- the names that the reply shows, where elements have these
+abbrev pub names_in : (ℕ → List ℕ) → Reply → List (List ℕ)
+names_in names (Refused why) = names_in_refusal names why
+names_in names _ = []
+
+-- what is shown as a name is one
+abbrev pub ShowsNames : List (List ℕ) → Type 0
+ShowsNames ns = Each (λ name. IsTrue (is_name name)) ns
+
+-- the numbers have 64 bits, and what is shown as a name is one
+pub record IsPrintable (id : Option ℕ) (version : ℕ) (names : ℕ → List ℕ) (reply : Reply) : Type 0 where
+  pub id_fits : IfSome id (λ n. n < 2 ^ 64)
+  pub version_fits : version < 2 ^ 64
+  pub named : ShowsNames (names_in names reply)

@@ -1,0 +1,141 @@
+-- What a name resolves to is live, one clause of `resolve-named` for each command; so each command keeps well formed.
+use Rattle.std.proofs.Common.{◌≡◌, ◌↔◌, ◌<◌, ◌+◌, ◌^◌, arith, Bool, ℕ, List, [], ◌∷◌, length, Option, Some, None, option_map, Result, Ok, Err, true, refl, sym, ◌∙◌, ap, subst, Contains, eq-eqb, bytes_eq}
+use Rattle.std.specs.List.{find, position_from}
+use Rattle.std.proofs.lemmas.Bool.{cond_both}
+use Rattle.std.proofs.lemmas.Nat.{or_lt, pow_pos}
+use Rattle.std.proofs.Math.Pow.{pow-lt}
+use Rattle.std.proofs.lemmas.Slice.Eq.{bytes_eq-Decides}
+use Rattle.pm_model.specs.Results.{and_then}
+use Rattle.pm_model.specs.State.{Graph, is_named, is_numbered, element_at, number_named}
+use Rattle.pm_model.specs.Resolve.{unused, known, look_up, look_up_both, look_up_rights, resolve}
+use Rattle.pm_model.specs.RightSet.{opening_rights, right_named, with_right}
+use Rattle.pm_model.specs.Effect.{effect}
+use Rattle.pm_model.specs.Answer.{administered}
+use Rattle.pm_model.specs.Formed.{IsWellFormed, IsNamed, IsLive}
+use Rattle.pm_model.specs.declared.elements.Kind.TheVariants.{Pc}
+use Rattle.pm_model.specs.declared.elements.Element.{Element}
+use Rattle.pm_model.specs.declared.requests.Command.{Command}
+use Rattle.pm_model.specs.declared.requests.Command.TheVariants as command
+use Rattle.pm_model.specs.declared.requests.Change.{Change}
+use Rattle.pm_model.specs.declared.requests.Change.TheVariants.{Create, Assign, Deassign, Associate, Dissociate}
+use Rattle.pm_laws.specs.Meaning.{IsNumberOf}
+use Rattle.pm_laws.proofs.Items.{find-found, find-some}
+use Rattle.pm_laws.proofs.Numbers.{found-at, stands-at, live-some}
+use Rattle.pm_laws.proofs.Formed.{formed-effect}
+use Rattle.pm_laws.proofs.Names.{one-name}
+
+-- ---- results in order
+
+and_then-ok : {A B E : Type 0} (r : Result A E) (f : A → Result B E) (b : B) → and_then r f ≡ Ok b →
+    (a : A) × (r ≡ Ok a) × (f a ≡ Ok b)
+and_then-ok (Ok a) f b h = (a, refl, h)
+and_then-ok (Err e) f b h = absurd (cc)
+
+ok-is : {A E : Type 0} (r : Result A E) (a b : A) → r ≡ Ok a → r ≡ Ok b → a ≡ b
+ok-is r a b h k = cc
+
+-- ---- a name and its number
+
+number-found : (es : List Element) (name : List ℕ) (n : ℕ) → number_named es name ≡ Some n →
+    (e : Element) × (find (is_named name) es ≡ Some e) × (e.number ≡ n)
+number-found es name n h = of (find (is_named name) es) refl h where
+  of : (o : Option Element) → find (is_named name) es ≡ o → option_map (λ (e : Element). e.number) o ≡ Some n →
+      (e : Element) × (find (is_named name) es ≡ Some e) × (e.number ≡ n)
+  of (Some e) is h = (e, is, cc)
+  of None is h = absurd (cc)
+
+named-live : (es : List Element) (name : List ℕ) (n : ℕ) → number_named es name ≡ Some n → IsLive es n
+named-live es name n h =
+    let p = number-found es name n h in
+    let there : Contains es p.0 = (find-found (is_named name) es p.0 p.1).0 in
+    let numbered : is_numbered n p.0 ≡ true = eq-eqb p.0.number n p.2 in
+    let q = find-some (is_numbered n) es p.0 there numbered in live-some es n q.0 q.1
+
+pub looked_up-live : (G : Graph) (name : List ℕ) (n : ℕ) → look_up G name ≡ Ok n → IsLive G.elements n
+looked_up-live G name n h = of (number_named G.elements name) refl h where
+  of : (o : Option ℕ) → number_named G.elements name ≡ o → known name o ≡ Ok n → IsLive G.elements n
+  of (Some m) is h = named-live G.elements name n (is ∙ ap Some (ok-is (known name (Some m)) m n refl h))
+  of None is h = absurd (cc)
+
+both_looked_up-live : (G : Graph) (first second : List ℕ) (p : ℕ × ℕ) → look_up_both G first second ≡ Ok p →
+    IsLive G.elements p.0 × IsLive G.elements p.1
+both_looked_up-live G first second p h =
+    let x = and_then-ok (look_up G first) (λ x. and_then (look_up G second) (λ y. Ok (x, y))) p h in
+    let y = and_then-ok (look_up G second) (λ y. Ok (x.0, y)) p x.2 in
+    let both : IsLive G.elements x.0 × IsLive G.elements y.0 = (looked_up-live G first x.0 x.1, looked_up-live G second y.0 y.1) in
+    subst (λ (q : ℕ × ℕ). IsLive G.elements q.0 × IsLive G.elements q.1) (ok-is _ (x.0, y.0) p refl y.2) both
+
+-- ---- names of rights
+
+position_from-below : {X : Type 0} (p : X → Bool) (i : ℕ) (xs : List X) (b : ℕ) → position_from p i xs ≡ Some b → b < i + length xs
+position_from-below p i [] b = λ h. absurd (cc)
+position_from-below p i (x ∷ xs) b = cond_both (p x) (Some i) (position_from p (i + 1) xs) (λ o. o ≡ Some b → b < i + length (x ∷ xs))
+    (λ is h. let same : i ≡ b = cc in omega (arith, same))
+    (λ is h. let later = position_from-below p (i + 1) xs b h in omega (arith, later))
+
+below : (name : List ℕ) (b : ℕ) → right_named name ≡ Some b → b < length opening_rights
+below name b is = let m : b < 0 + length opening_rights = position_from-below (bytes_eq name) 0 opening_rights b is in omega (arith, m)
+
+-- the bit of a name is below the number of names
+named-below : (name : List ℕ) (bit : ℕ) → known name (right_named name) ≡ Ok bit → bit < length opening_rights
+named-below name bit h = either (right_named name) refl h where
+  either : (o : Option ℕ) → right_named name ≡ o → known name o ≡ Ok bit → bit < length opening_rights
+  either (Some b) is h =
+      subst (λ n. n < length opening_rights) (ok-is (known name (Some b)) b bit refl h) (below name b is)
+  either None is h = absurd (cc)
+
+looked_up-rights : (names : List (List ℕ)) (r : ℕ) → look_up_rights names ≡ Ok r → r < 2 ^ length opening_rights
+looked_up-rights [] r h = rw (ok-is (look_up_rights []) r 0 h refl) (pow_pos (length opening_rights))
+looked_up-rights (n ∷ ns) r h =
+    let bit = and_then-ok (known n (right_named n)) (λ bit. and_then (look_up_rights ns) (λ rights. Ok (with_right bit rights))) r h in
+    let rest = and_then-ok (look_up_rights ns) (λ rights. Ok (with_right bit.0 rights)) r bit.2 in
+    let both = or_lt (length opening_rights) (2 ^ bit.0) rest.0 (pow-lt (named-below n bit.0 bit.1)) (looked_up-rights ns rest.0 rest.1) in
+    subst (λ k. k < 2 ^ length opening_rights) (ok-is _ (with_right bit.0 rest.0) r refl rest.2) both
+
+pub resolve-named : (G : Graph) (c : Command) (d : Change) → resolve G c ≡ Ok d → IsNamed G d
+resolve-named G (command.CreatePc name) d h =
+    subst (IsNamed G) (ok-is (resolve G (command.CreatePc name)) (Create (unused G.elements) Pc name None) d refl h) (refl, refl)
+resolve-named G (command.Create kind name into) d h =
+    let p = and_then-ok (look_up G into) (λ c. Ok (Create (unused G.elements) kind name (Some c))) d h in
+    subst (IsNamed G) (ok-is _ (Create (unused G.elements) kind name (Some p.0)) d refl p.2) (refl, looked_up-live G into p.0 p.1)
+resolve-named G (command.Assign from to) d h =
+    let p = and_then-ok (look_up_both G from to) (λ p. Ok (Assign p.0 p.1)) d h in
+    subst (IsNamed G) (ok-is _ (Assign p.0.0 p.0.1) d refl p.2) (both_looked_up-live G from to p.0 p.1)
+resolve-named G (command.Deassign from to) d h =
+    let p = and_then-ok (look_up_both G from to) (λ p. Ok (Deassign p.0 p.1)) d h in
+    subst (IsNamed G) (ok-is _ (Deassign p.0.0 p.0.1) d refl p.2) (both_looked_up-live G from to p.0 p.1)
+resolve-named G (command.Associate ua rights at) d h =
+    let u = and_then-ok (look_up G ua) (λ u. and_then (look_up_rights rights) (λ r. and_then (look_up G at) (λ t. Ok (Associate u r t)))) d h in
+    let r = and_then-ok (look_up_rights rights) (λ r. and_then (look_up G at) (λ t. Ok (Associate u.0 r t))) d u.2 in
+    let t = and_then-ok (look_up G at) (λ t. Ok (Associate u.0 r.0 t)) d r.2 in
+    subst (IsNamed G) (ok-is _ (Associate u.0 r.0 t.0) d refl t.2)
+    (looked_up-live G ua u.0 u.1, looked_up-live G at t.0 t.1, looked_up-rights rights r.0 r.1)
+resolve-named G (command.Dissociate ua at) d h =
+    let p = and_then-ok (look_up_both G ua at) (λ p. Ok (Dissociate p.0 p.1)) d h in
+    subst (IsNamed G) (ok-is _ (Dissociate p.0.0 p.0.1) d refl p.2) (both_looked_up-live G ua at p.0 p.1)
+
+-- what a command makes of a well formed graph is well formed
+pub formed-administered : (G H : Graph) (c : Command) → IsWellFormed G → administered G c ≡ Ok H → IsWellFormed H
+formed-administered G H c f h =
+    let p = and_then-ok (resolve G c) (effect G) H h in formed-effect G H p.0 f (resolve-named G c p.0 p.1) p.2
+
+-- a name finds a number exactly where the element of that number has the name
+pub number_of_name : (G : Graph) (name : List ℕ) (n : ℕ) → IsWellFormed G →
+    (number_named G.elements name ≡ Some n) ↔ IsNumberOf G n name
+number_of_name G name n f = (to, from) where
+  to : number_named G.elements name ≡ Some n → IsNumberOf G n name
+  to h =
+      let p = number-found G.elements name n h in
+      let c = find-found (is_named name) G.elements p.0 p.1 in
+      let stands = subst (λ k. element_at G.elements k ≡ Some p.0) p.2 (stands-at 0 G.elements p.0 f.elements.rising c.0) in
+      (p.0, stands, sym ((bytes_eq-Decides name p.0.name).0 c.1))
+
+  from : IsNumberOf G n name → number_named G.elements name ≡ Some n
+  from h =
+      let c = found-at G.elements n h.0 h.1 in
+      let named : is_named name h.0 ≡ true = (bytes_eq-Decides name h.0.name).1 (sym h.2) in
+      let p = find-some (is_named name) G.elements h.0 c.0 named in
+      let d = find-found (is_named name) G.elements p.0 p.1 in
+      let named_so : name ≡ p.0.name = (bytes_eq-Decides name p.0.name).0 d.1 in
+      let same : p.0 ≡ h.0 = one-name G.elements p.0 h.0 f.elements.named d.0 c.0 (sym named_so ∙ sym h.2) in
+      rw (p.1, same, c.1) refl

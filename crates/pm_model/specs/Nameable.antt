@@ -1,0 +1,20 @@
+-- Which replies can be told: those whose elements have names. The project's own.
+use Rattle.std.specs.Prelude.{ℕ, Bool, IsTrue}
+use Rattle.pm_model.specs.declared.replies.Reason.{Reason}
+use Rattle.pm_model.specs.declared.replies.Reason.TheVariants.{Class}
+use Rattle.pm_model.specs.declared.replies.Refusal.{Refusal}
+use Rattle.pm_model.specs.declared.replies.Refusal.TheVariants.{Denied}
+use Rattle.pm_model.specs.declared.replies.Reply.{Reply}
+use Rattle.pm_model.specs.declared.replies.Reply.TheVariants.{Refused}
+
+abbrev pub IsReasonNameable : (ℕ → Bool) → Reason → Type 0
+IsReasonNameable named (Class pc) = IsTrue (named pc)
+
+abbrev pub IsRefusalNameable : (ℕ → Bool) → Refusal → Type 0
+IsRefusalNameable named (Denied right target reason) = IsTrue (named target) × IsReasonNameable named reason
+IsRefusalNameable named _ = Unit {0}
+
+-- each element that the reply tells by its number has a name
+abbrev pub IsNameable : (ℕ → Bool) → Reply → Type 0
+IsNameable named (Refused why) = IsRefusalNameable named why
+IsNameable named _ = Unit {0}

@@ -1,0 +1,3 @@
+mod ClassPlaces
+mod ClassChanges
+pub mod PlacedClasses

@@ -1,0 +1,6 @@
+pub mod Classes
+pub mod Kept
+pub mod KeptDraft
+pub mod KeptState
+pub mod Made
+pub mod Shown

@@ -1,0 +1,123 @@
+ghost use Rattle.std.specs.Prelude.{◌≡◌, OnOk, OnErr, IfOk, IfErr, None};
+ghost use Rattle.pm_model.specs.State.{opening, classes_in};
+ghost use Rattle.pm_model.specs.Decision.{associations_of};
+ghost use Rattle.pm_model.specs.Effect.{refusal, effect, IsCause};
+ghost use Rattle.pm_model.specs.Formed.{IsWellFormed, IsNamed};
+ghost use Rattle.pm_state.specs.Made.{made_by};
+
+use crate::tables::Tables;
+use pm_assoc::Assoc;
+use pm_elements::Elements;
+use pm_model::{Change, ChangeError, ClassList, ElementId, Made, Memory, Name, NameOf};
+use std::alloc::Global;
+use std::marker::Model;
+
+/// All that commands change. Contracts see the lists, which are well formed.
+#[derive(Drop)]
+pub struct Graph {
+    tables: Tables,
+}
+
+impl Model for Graph {
+    ghost use Rattle.pm_model.specs.State.{Graph};
+
+    ghost Value = { Graph };
+
+    ghost use Rattle.pm_state.specs.Kept.{shown_of, IsGraph};
+
+    ghost view = { shown_of };
+
+    ghost invariant = { IsGraph };
+}
+
+impl Graph {
+    /// The graph of the opening state.
+    pub(crate) fn opening(alloc: Global) -> Result<Graph, Memory>
+        ensures { IfOk result (λ g. g ≡ opening.graph) }
+    {
+        let elements = Elements::opening(alloc)?;
+        let mut classes = ClassList::new(alloc);
+        classes.push(ElementId(0))?;
+        let assoc = Assoc::new(alloc);
+        Ok(Graph {
+            tables: Tables {
+                elements,
+                assoc,
+                classes,
+            },
+        })
+    }
+
+    /// What each graph keeps.
+    pub fn formed(&self)
+        ensures { IsWellFormed self.now }
+    {
+        let _ = &self.tables;
+    }
+
+    /// The elements and their assignments.
+    pub fn elements(&self) -> &Elements
+        ensures { result.now ≡ record { elements = self.now.elements; assigned = self.now.assigned } }
+    {
+        &self.tables.elements
+    }
+
+    /// The associations.
+    pub fn assoc(&self) -> &Assoc
+        ensures { associations_of result.now ≡ self.now.associations }
+    {
+        &self.tables.assoc
+    }
+
+    /// The live policy classes, by rising number.
+    pub fn classes(&self) -> &ClassList
+        ensures { result.now ≡ classes_in self.now.elements }
+    {
+        &self.tables.classes
+    }
+
+    /// The same graph once more.
+    pub(crate) fn copy(&self) -> Result<Graph, Memory>
+        ensures { IfOk result (λ same. same ≡ self.now) }
+    {
+        let tables = self.tables.copy()?;
+        Ok(Graph { tables })
+    }
+
+    /// Tells the first precondition of a change that isn't met, and changes nothing.
+    pub fn check(&self, change: &Change) -> Result<(), ChangeError>
+        requires { IsNamed self.now change.now }
+        ensures ok { OnOk result (refusal self.now change.now ≡ None) }
+        ensures refused { IfErr result (IsCause (refusal self.now change.now)) }
+    {
+        self.tables.check(change)
+    }
+
+    /// Makes one change, or tells the first precondition that isn't met.
+    pub(crate) fn change(&mut self, change: &Change) -> Result<Made, ChangeError>
+        requires { IsNamed self.old change.now }
+        ensures ok { OnOk result (effect self.old change.now ≡ Ok self.new) }
+        ensures made { IfOk result (λ m. m ≡ made_by change.now) }
+        ensures refused { IfErr result (IsCause (refusal self.old change.now)) }
+        ensures err { OnErr result (self.new ≡ self.old) }
+    {
+        let made = match self.tables.change(change) {
+            Ok(made) => made,
+            Err(error) => return Err(error),
+        };
+        Ok(made)
+    }
+}
+
+impl NameOf for Graph {
+    ghost use Rattle.std.specs.Prelude.{is_some};
+    ghost use Rattle.pm_model.specs.State.{element_at, name_numbered};
+
+    ghost named = { λ g n. is_some (element_at g.elements n) };
+
+    ghost name_at = { λ g. name_numbered g.elements };
+
+    fn name_of(&self, id: ElementId) -> Name {
+        self.tables.elements.name(id)
+    }
+}

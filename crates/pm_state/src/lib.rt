@@ -1,0 +1,14 @@
+//! The state of the policy machine: a version of its graph, and the draft of the next one.
+#![tactic(auto)]
+
+mod classes;
+mod draft;
+mod graph;
+mod state;
+mod tables;
+#[cfg(test)]
+mod tests;
+
+pub use draft::Draft;
+pub use graph::Graph;
+pub use state::State;
