@@ -84,5 +84,66 @@ attributes = record {
       codes "{\"no\":\"ahead\",\"v\":3}" ∷ [];
 }
 
+-- A right is given where a class holds an object: who isn't in the attribute is denied, for the class; who is in it is
+-- granted; a class is reached by no association.
+abbrev pub first_privilege : Row
+first_privilege = record {
+  lines =
+      codes "{\"cmd\":\"create_pc\",\"name\":\"files\",\"proc\":0}" ∷
+      codes "{\"cmd\":\"create_ua\",\"into\":\"files\",\"name\":\"staff\",\"proc\":0}" ∷
+      codes "{\"cmd\":\"create_oa\",\"into\":\"files\",\"name\":\"docs\",\"proc\":0}" ∷
+      codes "{\"cmd\":\"create_object\",\"into\":\"docs\",\"name\":\"memo\",\"proc\":0}" ∷
+      codes "{\"at\":\"docs\",\"cmd\":\"associate\",\"proc\":0,\"rights\":[\"read\"],\"ua\":\"staff\"}" ∷
+      codes "{\"cmd\":\"access\",\"proc\":0,\"right\":\"read\",\"target\":\"memo\"}" ∷
+      codes "{\"cmd\":\"assign\",\"from\":\"root\",\"proc\":0,\"to\":\"staff\"}" ∷
+      codes "{\"cmd\":\"access\",\"proc\":0,\"right\":\"read\",\"target\":\"memo\"}" ∷
+      codes "{\"cmd\":\"access\",\"proc\":0,\"right\":\"read\",\"target\":\"files\"}" ∷
+      codes "{\"cmd\":\"access\",\"proc\":0,\"right\":\"fly\",\"target\":\"memo\"}" ∷
+      codes "{\"at\":\"docs\",\"cmd\":\"associate\",\"proc\":0,\"rights\":[\"write\"],\"ua\":\"staff\"}" ∷
+      codes "{\"at\":\"memo\",\"cmd\":\"dissociate\",\"proc\":0,\"ua\":\"staff\"}" ∷ [];
+  replies =
+      codes "{\"ok\":\"done\",\"v\":1}" ∷
+      codes "{\"ok\":\"done\",\"v\":2}" ∷
+      codes "{\"ok\":\"done\",\"v\":3}" ∷
+      codes "{\"ok\":\"done\",\"v\":4}" ∷
+      codes "{\"ok\":\"done\",\"v\":5}" ∷
+      codes "{\"class\":\"files\",\"no\":\"denied\",\"right\":\"read\",\"target\":\"memo\",\"v\":5}" ∷
+      codes "{\"ok\":\"done\",\"v\":6}" ∷
+      codes "{\"ok\":\"granted\",\"v\":6}" ∷
+      codes "{\"class\":\"files\",\"no\":\"denied\",\"right\":\"read\",\"target\":\"files\",\"v\":6}" ∷
+      codes "{\"name\":\"fly\",\"no\":\"unknown_name\",\"v\":6}" ∷
+      codes "{\"no\":\"already\",\"v\":6}" ∷
+      codes "{\"no\":\"absent\",\"v\":6}" ∷ [];
+}
+
+-- An object in two classes: the one in which no association gives the right is told; one at the object itself is in both.
+abbrev pub two_classes : Row
+two_classes = record {
+  lines =
+      codes "{\"cmd\":\"create_pc\",\"name\":\"a\",\"proc\":0}" ∷
+      codes "{\"cmd\":\"create_pc\",\"name\":\"b\",\"proc\":0}" ∷
+      codes "{\"cmd\":\"create_ua\",\"into\":\"a\",\"name\":\"staff\",\"proc\":0}" ∷
+      codes "{\"cmd\":\"create_oa\",\"into\":\"a\",\"name\":\"docs\",\"proc\":0}" ∷
+      codes "{\"cmd\":\"create_object\",\"into\":\"docs\",\"name\":\"memo\",\"proc\":0}" ∷
+      codes "{\"cmd\":\"assign\",\"from\":\"memo\",\"proc\":0,\"to\":\"b\"}" ∷
+      codes "{\"cmd\":\"assign\",\"from\":\"root\",\"proc\":0,\"to\":\"staff\"}" ∷
+      codes "{\"at\":\"docs\",\"cmd\":\"associate\",\"proc\":0,\"rights\":[\"read\"],\"ua\":\"staff\"}" ∷
+      codes "{\"cmd\":\"access\",\"proc\":0,\"right\":\"read\",\"target\":\"memo\"}" ∷
+      codes "{\"at\":\"memo\",\"cmd\":\"associate\",\"proc\":0,\"rights\":[\"read\"],\"ua\":\"staff\"}" ∷
+      codes "{\"cmd\":\"access\",\"proc\":0,\"right\":\"read\",\"target\":\"memo\"}" ∷ [];
+  replies =
+      codes "{\"ok\":\"done\",\"v\":1}" ∷
+      codes "{\"ok\":\"done\",\"v\":2}" ∷
+      codes "{\"ok\":\"done\",\"v\":3}" ∷
+      codes "{\"ok\":\"done\",\"v\":4}" ∷
+      codes "{\"ok\":\"done\",\"v\":5}" ∷
+      codes "{\"ok\":\"done\",\"v\":6}" ∷
+      codes "{\"ok\":\"done\",\"v\":7}" ∷
+      codes "{\"ok\":\"done\",\"v\":8}" ∷
+      codes "{\"class\":\"b\",\"no\":\"denied\",\"right\":\"read\",\"target\":\"memo\",\"v\":8}" ∷
+      codes "{\"ok\":\"done\",\"v\":9}" ∷
+      codes "{\"ok\":\"granted\",\"v\":9}" ∷ [];
+}
+
 abbrev pub rows : List Row
-rows = class_named_twice ∷ other_process ∷ bad_forms ∷ attributes ∷ []
+rows = class_named_twice ∷ other_process ∷ bad_forms ∷ attributes ∷ first_privilege ∷ two_classes ∷ []
