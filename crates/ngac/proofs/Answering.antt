@@ -19,14 +19,6 @@ use Rattle.ngac.proofs.Writing.{Wrote-then, Wrote-whole, Wrote-then_part, IsProp
 abbrev asked_of : Option (List ℕ × List ℕ) → Option Asked
 asked_of o = option_map asked_at (option_map (λ (p : List ℕ × List ℕ). event_of p.0) o)
 
--- where nothing is asked, no line waits
-pub cut-no_asked : (w : List ℕ) → None ≡ next_asked w → cut w ≡ None
-cut-no_asked w h = by_cases (cut w) h
-  where
-    by_cases : (o : Option (List ℕ × List ℕ)) → None ≡ asked_of o → o ≡ None
-    by_cases None h = refl
-    by_cases (Some p) h = absurd (none-some (asked_at (event_of p.0)) h)
-
 -- the first line that waits asks this
 pub record NextLine (w : List ℕ) (a : Asked) : Type 0 where
   pub event : Event

@@ -1,3 +1,5 @@
+//! How the program may end, and the number and line that tell it.
+
 /// How the program ended.
 #[derive(Clone, Copy, Debug, PartialEq, Eq)]
 pub enum Status {

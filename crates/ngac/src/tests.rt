@@ -1,3 +1,5 @@
+//! Whole runs over memory: what is written, and how each ends.
+
 use crate::run::run_lines;
 use crate::statuses::Status;
 use crate::top::top;

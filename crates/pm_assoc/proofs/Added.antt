@@ -1,5 +1,5 @@
 -- One association more: at its user attribute, or with a new one.
-use Rattle.std.proofs.Common.{◌≡◌, ℕ, zero, suc, ◌+◌, ◌<◌, ◌≤◌, List, [], ◌∷◌, ◌++◌, length, insert, nat_lt, Bool, true, false, refl, sym, ap, arith, append_assoc, length-append}
+use Rattle.std.proofs.Common.{◌≡◌, ℕ, zero, suc, ◌+◌, ◌<◌, ◌≤◌, List, [], ◌∷◌, ◌++◌, length, insert, refl, sym, ap, arith, append_assoc, length-append}
 use Rattle.std.proofs.lemmas.Bool.{le-ltb, lt-ltb}
 use Rattle.std.proofs.lemmas.List.{map_push}
 use Rattle.pm_model.specs.Effect.{joined}
@@ -8,13 +8,6 @@ use Rattle.pm_model.specs.declared.rights.Association.{Association}
 use Rattle.pm_model.specs.declared.rights.Grant.{Grant}
 use Rattle.pm_model.specs.declared.rights.Grantee.{Grantee}
 use Rattle.pm_assoc.specs.Grantees.{grantee, association, AreGrantees, IsAt, IsGapFor, edited, with_grant}
-
-pub length-joined : (a : Association) (bs : List Association) → length (joined a bs) ≡ length bs + 1
-length-joined a [] = omega arith
-length-joined a (b ∷ bs) = either (length-joined a bs) (nat_lt a.ua b.ua) refl where
-  either : length (joined a bs) ≡ length bs + 1 → (t : Bool) → nat_lt a.ua b.ua ≡ t → length (joined a (b ∷ bs)) ≡ length (b ∷ bs) + 1
-  either rest true is = rw is (omega arith)
-  either rest false is = rw is (omega (arith, rest))
 
 -- behind what is not higher
 joined-behind : (a : Association) (ua : ℕ) (grants : List Grant) (rest : List Association) → ua ≤ a.ua →

@@ -2,21 +2,16 @@
 use Rattle.std.proofs.Common.{◌≡◌, ℕ, zero, suc, ◌+◌, ◌<◌, ◌==◌, List, [], ◌∷◌, ◌++◌, length, get_or, Bool, true, false, ◌||◌, refl, ◌∙◌, arith, ne_eqb, eq-eqb}
 use Rattle.std.specs.List.{list_any}
 use Rattle.std.proofs.lemmas.List.Folds.{list_any-append}
-use Rattle.pm_model.specs.Effect.{joins}
+use Rattle.pm_model.specs.Effect.{joins, has_end}
 use Rattle.pm_model.specs.Decision.{of_grantee, associations_of}
 use Rattle.pm_model.specs.declared.rights.Association.{Association}
 use Rattle.pm_model.specs.declared.rights.Grant.{Grant}
 use Rattle.pm_model.specs.declared.rights.Grantee.{Grantee}
-use Rattle.pm_assoc.specs.Ends.{has_end}
 use Rattle.pm_assoc.specs.Grantees.{grantee, is_on, mentions, AreGrantees, IsAt, IsGapFor}
 
 or_false : (b : Bool) → (b || false) ≡ b
 or_false true = refl
 or_false false = refl
-
-or_true : (b : Bool) → (b || true) ≡ true
-or_true true = refl
-or_true false = refl
 
 module _ (ua at : ℕ) where
   -- of the user attribute's own, those on the element

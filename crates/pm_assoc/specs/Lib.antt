@@ -1,4 +1,3 @@
-pub mod Ends
 pub mod Grantees
 pub mod Kept
 pub mod Told

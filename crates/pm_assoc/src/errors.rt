@@ -1,3 +1,5 @@
+//! The errors of the table.
+
 ghost use Rattle.std.specs.Prelude.{◌≡◌};
 ghost use Rattle.pm_assoc.specs.Told.{told};
 

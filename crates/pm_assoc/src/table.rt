@@ -1,9 +1,10 @@
+//! The table: its associations by user attribute, and how many there are.
+
 ghost use Rattle.std.specs.Prelude.{◌≡◌, ◌≢◌, [], None, OnOk, OnErr, IfOk, IfErr, length, filter, not};
 ghost use Rattle.std.specs.List.{list_any};
 ghost use Rattle.pm_model.specs.Results.{first_of};
 ghost use Rattle.pm_model.specs.Decision.{associations_of};
-ghost use Rattle.pm_model.specs.Effect.{associate_checks, dissociate_checks, joins, joined, IsCause};
-ghost use Rattle.pm_assoc.specs.Ends.{has_end};
+ghost use Rattle.pm_model.specs.Effect.{associate_checks, dissociate_checks, has_end, joins, joined, IsCause};
 ghost use Rattle.pm_assoc.specs.Grantees.{AreGrantees};
 ghost use Rattle.pm_assoc.specs.Told.{told};
 
@@ -45,7 +46,8 @@ impl Assoc {
         }
     }
 
-    /// What each table keeps: the user attributes rise, and each has an association.
+    /// Does nothing. Its contract is what each table keeps: the user attributes rise, and each has an
+    /// association.
     pub fn kept(&self)
         ensures { AreGrantees 0 self.now }
     {
@@ -53,7 +55,7 @@ impl Assoc {
     }
 
     /// Gives the users in a user attribute these rights on what is in `at`. `Already` and `Full` come
-    /// where `check_associate` says so, `Memory` else.
+    /// where `check_associate` says so; the only other error is `Memory`.
     pub fn associate(
         &mut self,
         ua: ElementId,

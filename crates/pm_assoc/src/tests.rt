@@ -1,3 +1,5 @@
+//! The table step by step, with answers worked out by hand.
+
 use super::*;
 use pm_model::{ChangeError, ElementId, Grants, Memory, Refusal, Rights, Table};
 use std::alloc::Global;

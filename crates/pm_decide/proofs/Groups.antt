@@ -6,7 +6,7 @@ use Rattle.pm_model.specs.declared.rights.Grant.{Grant}
 use Rattle.pm_model.specs.declared.rights.Grantee.{Grantee}
 use Rattle.pm_model.specs.Decision.{meets, is_met, of_grantee, associations_of}
 use Rattle.pm_decide.specs.Gives.{gives}
-use Rattle.pm_decide.proofs.Walks.{drop-item}
+use Rattle.pm_model.proofs.Walks.{drop-item}
 
 none_in : (in_ua : Bool) → false ≡ (in_ua && false)
 none_in true = refl
@@ -35,12 +35,18 @@ module _ (below : ℕ → ℕ → Bool) (u r e pc : ℕ) where
   pub met_by_group : (g : Grantee) → is_met below (of_grantee g) u r e pc ≡ (below u g.ua && list_any (gives below r e pc) g.grants)
   met_by_group g = any_of_group g.ua g.grants
 
+  pub met_in : (g : Grantee) → true ≡ below u g.ua → list_any (gives below r e pc) g.grants ≡ is_met below (of_grantee g) u r e pc
+  met_in g within = sym (met_by_group g ∙ rw (← within) refl)
+
+  pub met_out : (g : Grantee) → false ≡ below u g.ua → false ≡ is_met below (of_grantee g) u r e pc
+  met_out g out = sym (met_by_group g ∙ rw (← out) refl)
+
   -- the first user attribute is asked about, and then those after it
   is_met-cons : (g : Grantee) (gs : List Grantee) →
       is_met below (associations_of (g ∷ gs)) u r e pc ≡ (is_met below (of_grantee g) u r e pc || is_met below (associations_of gs) u r e pc)
   is_met-cons g gs = list_any-append (meets below u r e pc) (of_grantee g) (associations_of gs)
 
-  is_met-drop : (gs : List Grantee) (i : ℕ) (g : Grantee) → slice_get gs i ≡ Some g →
+  pub is_met-drop : (gs : List Grantee) (i : ℕ) (g : Grantee) → slice_get gs i ≡ Some g →
       is_met below (associations_of (drop i gs)) u r e pc
       ≡ (is_met below (of_grantee g) u r e pc || is_met below (associations_of (drop (i + 1) gs)) u r e pc)
   is_met-drop gs i g is = rw (drop-item gs i g is) (is_met-cons g (drop (i + 1) gs))

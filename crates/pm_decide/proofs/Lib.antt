@@ -1,3 +1,6 @@
 pub mod Groups
+pub mod Orders
+pub mod Places
 pub mod Privileges
+pub mod RightSets
 pub mod Walks

@@ -1,12 +1,20 @@
 -- One step of a walk over a list by its index: an answer over what is left, before and after the item.
-use Rattle.std.proofs.Common.{◌≡◌, ℕ, ◌+◌, ◌<◌, Bool, true, false, List, [], ◌∷◌, length, Some, Option, drop, ◌&&◌, not, cond, filter, refl, ◌∙◌, add-one, drop-cons, slice_get, is_some}
-use Rattle.std.proofs.lemmas.Option.{slice_get_within, get_or_from_slice_get}
-use Rattle.std.specs.List.{list_any, list_all, find}
+use Rattle.std.proofs.Common.{◌≡◌, ℕ, ◌+◌, Bool, true, false, List, [], ◌∷◌, Some, Option, drop, ◌&&◌, ◌||◌, not, cond, filter, refl, ◌∙◌, slice_get, is_some}
+use Rattle.std.specs.List.{list_any, list_all, find, position_from}
+use Rattle.pm_model.proofs.Walks.{drop-item}
 
-pub drop-item : {X : Type 0} (xs : List X) (i : ℕ) (x : X) → slice_get xs i ≡ Some x → drop i xs ≡ x ∷ drop (i + 1) xs
-drop-item xs i x is =
-    let below : i < length xs = slice_get_within xs i x is in
-    rw (add-one, drop-cons xs i x below, get_or_from_slice_get xs i x x is)
+-- the answer over what is left is that of the item, and then of those after it
+pub any-drop : {X : Type 0} (p : X → Bool) (xs : List X) (i : ℕ) (x : X) → slice_get xs i ≡ Some x →
+    list_any p (drop i xs) ≡ (p x || list_any p (drop (i + 1) xs))
+any-drop p xs i x is = rw (drop-item xs i x is) refl
+
+pub all-drop : {X : Type 0} (f p : X → Bool) (xs : List X) (i : ℕ) (x : X) → slice_get xs i ≡ Some x →
+    list_all p (filter f (drop i xs)) ≡ ((not (f x) || p x) && list_all p (filter f (drop (i + 1) xs)))
+all-drop f p xs i x is = rw (drop-item xs i x is) (by_test (f x)) where
+  by_test : (b : Bool) → list_all p (cond b (x ∷ filter f (drop (i + 1) xs)) (filter f (drop (i + 1) xs)))
+      ≡ ((not b || p x) && list_all p (filter f (drop (i + 1) xs)))
+  by_test true = refl
+  by_test false = refl
 
 pub any-yes : {X : Type 0} (p : X → Bool) (xs : List X) (i : ℕ) (x : X) → list_any p xs ≡ list_any p (drop i xs) →
     slice_get xs i ≡ Some x → true ≡ p x → true ≡ list_any p xs
@@ -15,6 +23,23 @@ any-yes p xs i x rest is passes = rw (rest, drop-item xs i x is, ← passes)
 pub any-no : {X : Type 0} (p : X → Bool) (xs : List X) (i : ℕ) (x : X) → list_any p xs ≡ list_any p (drop i xs) →
     slice_get xs i ≡ Some x → false ≡ p x → list_any p xs ≡ list_any p (drop (i + 1) xs)
 any-no p xs i x rest is fails = rest ∙ rw (drop-item xs i x is, ← fails) refl
+
+pub all-yes : {X : Type 0} (p : X → Bool) (xs : List X) (i : ℕ) (x : X) → list_all p xs ≡ list_all p (drop i xs) →
+    slice_get xs i ≡ Some x → true ≡ p x → list_all p xs ≡ list_all p (drop (i + 1) xs)
+all-yes p xs i x rest is passes = rest ∙ rw (drop-item xs i x is, ← passes) refl
+
+pub all-no : {X : Type 0} (p : X → Bool) (xs : List X) (i : ℕ) (x : X) → list_all p xs ≡ list_all p (drop i xs) →
+    slice_get xs i ≡ Some x → false ≡ p x → false ≡ list_all p xs
+all-no p xs i x rest is fails = rw (rest, drop-item xs i x is, ← fails)
+
+-- the place of the first that passes
+pub place-yes : {X : Type 0} (p : X → Bool) (xs : List X) (i : ℕ) (x : X) → position_from p 0 xs ≡ position_from p i (drop i xs) →
+    slice_get xs i ≡ Some x → true ≡ p x → Some i ≡ position_from p 0 xs
+place-yes p xs i x rest is passes = rw (rest, drop-item xs i x is, ← passes)
+
+pub place-no : {X : Type 0} (p : X → Bool) (xs : List X) (i : ℕ) (x : X) → position_from p 0 xs ≡ position_from p i (drop i xs) →
+    slice_get xs i ≡ Some x → false ≡ p x → position_from p 0 xs ≡ position_from p (i + 1) (drop (i + 1) xs)
+place-no p xs i x rest is fails = rest ∙ rw (drop-item xs i x is, ← fails) refl
 
 -- the first that passes, of those that pass a filter
 pub first-out : {X : Type 0} (f p : X → Bool) (xs : List X) (i : ℕ) (x : X) → find p (filter f xs) ≡ find p (filter f (drop i xs)) →

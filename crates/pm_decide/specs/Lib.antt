@@ -1,3 +1,4 @@
 pub mod Gives
 pub mod Live
+pub mod Sets
 pub mod Verdict

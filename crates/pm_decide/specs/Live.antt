@@ -1,6 +1,9 @@
 -- What a decision may ask about: elements that are live.
 use Rattle.std.specs.Prelude.{ℕ, List, IsTrue, All}
 use Rattle.pm_model.specs.Containment.{Relation}
+use Rattle.pm_model.specs.declared.prohibitions.Prohibition.{Prohibition}
+use Rattle.pm_model.specs.declared.prohibitions.Subject.{Subject}
+use Rattle.pm_model.specs.declared.prohibitions.Subject.TheVariants.{User, Ua, Process}
 use Rattle.pm_model.specs.declared.rights.Grant.{Grant}
 use Rattle.pm_model.specs.declared.rights.Grantee.{Grantee}
 
@@ -18,3 +21,19 @@ pub record GranteeLive (relation : Relation) (g : Grantee) : Type 0 where
 -- both ends of each association
 abbrev pub EndsLive : Relation → List Grantee → Type 0
 EndsLive relation gs = All (GranteeLive relation) gs
+
+-- the subject, where it is an element
+abbrev pub SubjectLive : Relation → Subject ℕ ℕ → Type 0
+SubjectLive relation (User x) = IsLive relation x
+SubjectLive relation (Ua x) = IsLive relation x
+SubjectLive relation (Process p) = Unit {0}
+
+-- all that the prohibition names
+pub record NamesLive (relation : Relation) (p : Prohibition) : Type 0 where
+  pub subject : SubjectLive relation p.subject
+  pub inc : AllLive relation p.inc
+  pub exc : AllLive relation p.exc
+
+-- all that each prohibition names
+abbrev pub BarsLive : Relation → List Prohibition → Type 0
+BarsLive relation ps = All (NamesLive relation) ps

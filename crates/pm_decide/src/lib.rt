@@ -1,18 +1,23 @@
-//! Privileges and decisions with their reasons, over whatever keeps containment and associations.
+//! Privileges, decisions with their reasons and sets of rights, over whatever keeps containment,
+//! associations and prohibitions.
 #![tactic(auto)]
 
 ghost use Rattle.std.specs.Prelude.{◌≡◌, ◌<◌};
 ghost use Rattle.std.specs.List.{list_any};
 ghost use Rattle.pm_model.specs.Decision.{is_met, lacking, privilege, of_grantee, associations_of};
-ghost use Rattle.pm_decide.specs.Live.{IsLive, AllLive, GranteeLive, EndsLive};
+ghost use Rattle.pm_decide.specs.Live.{IsLive, AllLive, GranteeLive, EndsLive, BarsLive};
 ghost use Rattle.pm_decide.specs.Gives.{gives};
 ghost use Rattle.pm_decide.specs.Verdict.{decision};
 
+mod prohibitions;
+mod rights;
 #[cfg(test)]
 mod tests;
 mod verdict;
 
-use pm_model::{ClassList, ElementId, Grant, Grantee, Grants, Reach};
+use pm_model::{Bars, ClassList, ElementId, Grant, Grantee, Grants, Reach};
+pub use prohibitions::first_applying;
+pub use rights::rights_of;
 pub use verdict::Verdict;
 
 /// Whether the grant gives the right on the element in the class.
@@ -129,11 +134,15 @@ fn lacking<R: Reach, G: Grants>(
     None
 }
 
-/// Whether the user has the right on the element: in each of the classes that contain the element
-/// some association gives it. The right is a bit; `classes` are all policy classes.
+/// Whether the user has the right on the element, whatever prohibitions there are: in each of the
+/// classes that contain the element some association gives it. An association gives it in a class where
+/// its user attribute contains the user, it has the right, and what it is on contains the element and
+/// is in the class. The right is a bit; `classes` are all policy classes. Of an element in none of them
+/// the answer is yes.
 ///
-/// Takes no memory. For each class that contains the element, each user attribute with associations
-/// costs one question of containment, and more only where it contains the user.
+/// Takes no memory. Each class costs one question of containment. In each that contains the element,
+/// each user attribute with associations costs one more and, where it contains the user, each of its
+/// grants of the right at most two. It ends at the first class in which no association gives it.
 pub fn privilege<R: Reach, G: Grants>(
     reach: &mut R,
     grants: &G,
@@ -153,15 +162,19 @@ pub fn privilege<R: Reach, G: Grants>(
     lacking(reach, grants, classes, user, right, element).is_none()
 }
 
-/// Whether the user may use the right on the element, and if not, why. The right is a bit;
-/// `classes` are all policy classes, by rising number, so that the reason is the lowest one.
+/// Whether the user, and the process where there is one, may use the right on the element, and if not,
+/// why. The right is a bit; `classes` are all policy classes. Where some class that contains the element
+/// doesn't give the right, the answer is the first such class, the lowest where they come by rising
+/// number, even if a prohibition denies the right as well.
 ///
-/// Takes no memory, and costs what [`privilege`] does.
-pub fn decide<R: Reach, G: Grants>(
+/// Takes no memory, and costs what [`privilege`] and, where the user has it, [`first_applying`] do.
+pub fn decide<R: Reach, G: Grants, B: Bars>(
     reach: &mut R,
     grants: &G,
+    bars: &B,
     classes: &ClassList,
     user: ElementId,
+    process: Option<u32>,
     right: u8,
     element: ElementId,
 ) -> Verdict
@@ -170,11 +183,15 @@ pub fn decide<R: Reach, G: Grants>(
     requires element { IsLive (R.relation reach.old) element }
     requires classes { AllLive (R.relation reach.old) classes.now }
     requires grants { EndsLive (R.relation reach.old) (G.grantees grants.now) }
-    ensures answer { result ≡ decision (R.relation reach.old).below (associations_of (G.grantees grants.now)) classes.now user right element }
+    requires bars { BarsLive (R.relation reach.old) (B.prohibitions bars.now) }
+    ensures answer { result ≡ decision (R.relation reach.old).below (associations_of (G.grantees grants.now)) (B.prohibitions bars.now) classes.now user process right element }
     ensures same { R.relation reach.new ≡ R.relation reach.old }
 {
     match lacking(reach, grants, classes, user, right, element) {
         Some(class) => Verdict::NoClass(class),
-        None => Verdict::Granted,
+        None => match first_applying(reach, bars, user, process, right, element) {
+            Some(place) => Verdict::Prohibited(place),
+            None => Verdict::Granted,
+        },
     }
 }

@@ -1,31 +1,65 @@
-ghost use Rattle.std.specs.Prelude.{◌≡◌};
+//! Decisions over small policies, with answers worked out by hand.
+
+ghost use Rattle.std.specs.Prelude.{◌≡◌, ◌≤◌, length};
 ghost use Rattle.pm_model.specs.Containment.{contained};
 
-use crate::{Verdict, decide, privilege};
-use pm_model::{ClassList, ElementId, Grant, Grantee, Grants, ItemList, Memory, Reach, Rights};
+use crate::{Verdict, decide, privilege, rights_of};
+use Told::{Granted, NoClass, Prohibited};
+use pm_model::{
+    Bars, ClassList, ElementId, Grant, Grantee, Grants, ItemList, Memory, Mode, Name, PlaceList,
+    Prohibition, Reach, Rights, Subject,
+};
 use std::alloc::Global;
 use std::process::Abort;
 use std::test::Fail;
 
+// A verdict in plain numbers.
+#[derive(Clone, Copy, Debug, PartialEq, Eq)]
+enum Told {
+    Granted,
+    NoClass(u32),
+    Prohibited(u32),
+}
+
+fn plain(verdict: Verdict) -> Told {
+    match verdict {
+        Verdict::Granted => Granted,
+        Verdict::NoClass(class) => NoClass(class.number()),
+        Verdict::Prohibited(place) => Prohibited(place),
+    }
+}
+
+// The rights that the graphs speak of, and others.
+const RIGHTS: [u8; 6] = [0, 1, 2, 3, 62, 63];
+
+// A prohibition: its subject, its rights, the two sets and how they make its range.
+type Bar = (Subject<u32, u32>, u64, &'static [u32], &'static [u32], Mode);
+
 // A small graph. Elements are the numbers below `size`, `grants` has each user attribute once, and
-// `told` has what was worked out by hand, as (user, right, element, the class that the user lacks).
+// `told` has what was worked out by hand, as (user, process, right, element, verdict).
 struct Graph {
     shows: &'static str,
     size: u32,
     classes: &'static [u32],
     assigned: &'static [(u32, u32)],
     grants: &'static [(u32, &'static [(u64, u32)])],
-    told: &'static [(u32, u8, u32, Option<u32>)],
+    bars: &'static [Bar],
+    told: &'static [(u32, Option<u32>, u8, u32, Told)],
 }
 
-const GRAPHS: [Graph; 6] = [
+const GRAPHS: [Graph; 8] = [
     Graph {
         shows: "one class",
         size: 5,
         classes: &[0],
         assigned: &[(1, 0), (2, 0), (3, 1), (4, 2)],
         grants: &[(1, &[(0b01, 2)])],
-        told: &[(3, 0, 4, None), (3, 1, 4, Some(0)), (3, 0, 0, Some(0))],
+        bars: &[],
+        told: &[
+            (3, None, 0, 4, Granted),
+            (3, None, 1, 4, NoClass(0)),
+            (3, None, 0, 0, NoClass(0)),
+        ],
     },
     Graph {
         shows: "an object in two classes",
@@ -43,7 +77,12 @@ const GRAPHS: [Graph; 6] = [
             (8, 5),
         ],
         grants: &[(2, &[(0b01, 4)]), (3, &[(0b01, 5)])],
-        told: &[(6, 0, 8, None), (7, 0, 8, Some(1)), (7, 0, 4, None)],
+        bars: &[],
+        told: &[
+            (6, None, 0, 8, Granted),
+            (7, None, 0, 8, NoClass(1)),
+            (7, None, 0, 4, Granted),
+        ],
     },
     Graph {
         shows: "an association on the object itself",
@@ -51,7 +90,12 @@ const GRAPHS: [Graph; 6] = [
         classes: &[0, 1],
         assigned: &[(2, 0), (3, 0), (4, 1), (5, 2), (6, 3), (6, 4)],
         grants: &[(2, &[(0b10, 3), (0b01, 6)])],
-        told: &[(5, 0, 6, None), (5, 1, 6, Some(1)), (5, 0, 3, Some(0))],
+        bars: &[],
+        told: &[
+            (5, None, 0, 6, Granted),
+            (5, None, 1, 6, NoClass(1)),
+            (5, None, 0, 3, NoClass(0)),
+        ],
     },
     Graph {
         shows: "an attribute in two classes",
@@ -59,7 +103,8 @@ const GRAPHS: [Graph; 6] = [
         classes: &[0, 1],
         assigned: &[(2, 0), (3, 0), (3, 1), (4, 2), (5, 3)],
         grants: &[(2, &[(1 << 63, 3)])],
-        told: &[(4, 63, 5, None), (4, 62, 5, Some(0))],
+        bars: &[],
+        told: &[(4, None, 63, 5, Granted), (4, None, 62, 5, NoClass(0))],
     },
     Graph {
         shows: "an association outside one of the classes",
@@ -67,7 +112,12 @@ const GRAPHS: [Graph; 6] = [
         classes: &[0, 1],
         assigned: &[(2, 0), (3, 0), (4, 1), (5, 3), (5, 4), (6, 2), (7, 6)],
         grants: &[(6, &[]), (2, &[(0b01, 3), (0b10, 4)])],
-        told: &[(7, 0, 5, Some(1)), (7, 1, 5, Some(0)), (7, 1, 4, None)],
+        bars: &[],
+        told: &[
+            (7, None, 0, 5, NoClass(1)),
+            (7, None, 1, 5, NoClass(0)),
+            (7, None, 1, 4, Granted),
+        ],
     },
     Graph {
         shows: "three classes, numbered among the elements",
@@ -89,11 +139,74 @@ const GRAPHS: [Graph; 6] = [
             (0, &[(0b001, 4)]),
             (3, &[(0b010, 6), (0b101, 6), (0b100, 9)]),
         ],
+        bars: &[],
         told: &[
-            (1, 0, 9, Some(7)),
-            (1, 1, 9, Some(2)),
-            (1, 2, 9, None),
-            (0, 0, 9, Some(5)),
+            (1, None, 0, 9, NoClass(7)),
+            (1, None, 1, 9, NoClass(2)),
+            (1, None, 2, 9, Granted),
+            (0, None, 0, 9, NoClass(5)),
+        ],
+    },
+    Graph {
+        shows: "prohibitions on a user, an attribute and a process",
+        size: 9,
+        classes: &[0],
+        assigned: &[
+            (1, 0),
+            (2, 0),
+            (3, 0),
+            (4, 1),
+            (5, 1),
+            (6, 5),
+            (7, 2),
+            (8, 2),
+            (8, 3),
+        ],
+        grants: &[(1, &[(0b11, 2)])],
+        bars: &[
+            (Subject::User(4), 0b10, &[], &[3], Mode::All),
+            (Subject::Ua(1), 0b10, &[], &[3, 2], Mode::Any),
+            (Subject::Process(1), 0b01, &[2], &[], Mode::All),
+        ],
+        told: &[
+            (4, None, 1, 7, Prohibited(0)),
+            (4, None, 1, 8, Granted),
+            (6, None, 1, 7, Prohibited(1)),
+            (6, None, 1, 8, Granted),
+            (6, Some(1), 0, 8, Prohibited(2)),
+            (6, Some(2), 0, 8, Granted),
+            (6, None, 0, 8, Granted),
+            (6, Some(1), 2, 8, NoClass(0)),
+        ],
+    },
+    Graph {
+        shows: "prohibitions on what is in each place, and in some or out of some",
+        size: 9,
+        classes: &[0, 1],
+        assigned: &[
+            (2, 0),
+            (3, 0),
+            (4, 1),
+            (5, 2),
+            (6, 3),
+            (6, 4),
+            (7, 3),
+            (8, 4),
+        ],
+        grants: &[(2, &[(0b111, 3), (0b011, 4)])],
+        bars: &[
+            (Subject::User(5), 0b001, &[3, 4], &[], Mode::All),
+            (Subject::Ua(2), 0b110, &[4], &[], Mode::Any),
+            (Subject::Process(2), 0b011, &[6], &[3], Mode::Any),
+        ],
+        told: &[
+            (5, None, 0, 6, Prohibited(0)),
+            (5, None, 0, 7, Granted),
+            (5, None, 1, 6, Prohibited(1)),
+            (5, None, 2, 6, NoClass(1)),
+            (5, Some(2), 0, 8, Prohibited(2)),
+            (5, Some(1), 0, 8, Granted),
+            (5, Some(2), 0, 7, Granted),
         ],
     },
 ];
@@ -141,6 +254,32 @@ impl Grants for Associations {
     }
 }
 
+#[derive(Drop)]
+struct Prohibitions {
+    list: ItemList<Prohibition>,
+    ghost most: { length list ≤ 4096 },
+}
+
+impl Bars for Prohibitions {
+    ghost prohibitions = { λ s. s.list };
+
+    fn len(&self) -> usize {
+        self.list.len()
+    }
+
+    fn at(&self, i: usize) -> &Prohibition {
+        self.list.at(i)
+    }
+}
+
+// The lists of a graph, as the program takes them.
+#[derive(Drop)]
+struct Lists {
+    grants: Associations,
+    bars: Prohibitions,
+    classes: ClassList,
+}
+
 fn groups(alloc: Global, graph: &Graph) -> Result<Associations, Memory> {
     let mut groups = ItemList::new(alloc);
     for (ua, pairs) in graph.grants {
@@ -156,12 +295,48 @@ fn groups(alloc: Global, graph: &Graph) -> Result<Associations, Memory> {
     Ok(Associations(groups))
 }
 
-fn classes(alloc: Global, graph: &Graph) -> Result<ClassList, Memory> {
-    let mut classes = ItemList::new(alloc);
-    for class in graph.classes {
-        classes.push(ElementId(*class))?;
+fn places(alloc: Global, numbers: &[u32]) -> Result<PlaceList, Memory> {
+    let mut places = ItemList::new(alloc);
+    for number in numbers {
+        places.push(ElementId(*number))?;
     }
-    Ok(classes)
+    Ok(places)
+}
+
+fn prohibition(alloc: Global, name: Name, bar: &Bar) -> Result<Prohibition, Memory> {
+    let subject = match bar.0 {
+        Subject::User(user) => Subject::User(ElementId(user)),
+        Subject::Ua(ua) => Subject::Ua(ElementId(ua)),
+        Subject::Process(process) => Subject::Process(process),
+    };
+    Ok(Prohibition {
+        name,
+        subject,
+        rights: Rights(bar.1),
+        inc: places(alloc, bar.2)?,
+        exc: places(alloc, bar.3)?,
+        mode: bar.4,
+    })
+}
+
+fn all_bars(alloc: Global, graph: &Graph) -> Result<Prohibitions, Fail> {
+    let name = Name::new(b"denied").ok_or("a name")?;
+    let mut list = ItemList::new(alloc);
+    for bar in graph.bars {
+        list.push(prohibition(alloc, name, bar)?)?;
+    }
+    if list.len() > 4096 {
+        return Err("few prohibitions".into());
+    }
+    Ok(Prohibitions { list })
+}
+
+fn all_lists(alloc: Global, graph: &Graph) -> Result<Lists, Fail> {
+    Ok(Lists {
+        grants: groups(alloc, graph)?,
+        bars: all_bars(alloc, graph)?,
+        classes: places(alloc, graph.classes)?,
+    })
 }
 
 // Whether at most so many assignments lead from x to y.
@@ -191,42 +366,124 @@ fn is_met(graph: &Graph, user: u32, right: u8, element: u32, class: u32) -> bool
     false
 }
 
-fn expected(graph: &Graph, user: u32, right: u8, element: u32) -> Verdict {
+// The first class that contains the element and where the user has no such right.
+fn lacking(graph: &Graph, user: u32, right: u8, element: u32) -> Option<u32> {
     for class in graph.classes {
         let within = leads(graph.assigned, element, *class, graph.size);
         if within && !is_met(graph, user, right, element, *class) {
-            return Verdict::NoClass(ElementId(*class));
+            return Some(*class);
         }
     }
-    Verdict::Granted
+    None
 }
 
-// Every right of the user on the element.
-fn agrees_on(
+// In how many of the places the element is.
+fn count_in(graph: &Graph, places: &[u32], element: u32) -> usize {
+    places
+        .iter()
+        .filter(|place| leads(graph.assigned, element, **place, graph.size))
+        .count()
+}
+
+fn is_denied(graph: &Graph, bar: &Bar, user: u32, process: Option<u32>, element: u32) -> bool {
+    let applies = match bar.0 {
+        Subject::User(x) => user == x,
+        Subject::Ua(x) => leads(graph.assigned, user, x, graph.size),
+        Subject::Process(p) => process == Some(p),
+    };
+    let (inside, outside) = (
+        count_in(graph, bar.2, element),
+        count_in(graph, bar.3, element),
+    );
+    match bar.4 {
+        Mode::All => applies && inside == bar.2.len() && outside == 0,
+        Mode::Any => applies && (inside > 0 || outside < bar.3.len()),
+    }
+}
+
+// The place of the first prohibition that has the right and denies.
+fn denied(
+    graph: &Graph,
+    user: u32,
+    process: Option<u32>,
+    right: u8,
+    element: u32,
+) -> Option<usize> {
+    graph.bars.iter().position(|bar| {
+        bar.1.wrapping_shr(u32::from(right)) & 1 == 1
+            && is_denied(graph, bar, user, process, element)
+    })
+}
+
+fn expected(graph: &Graph, user: u32, process: Option<u32>, right: u8, element: u32) -> Told {
+    match lacking(graph, user, right, element) {
+        Some(class) => NoClass(class),
+        None => match denied(graph, user, process, right, element) {
+            Some(place) => Prohibited(u32::try_from(place).unwrap_or(u32::MAX)),
+            None => Granted,
+        },
+    }
+}
+
+fn decisions_agree_on(
     rt: &impl Abort,
     graph: &Graph,
-    grants: &Associations,
-    classes: &ClassList,
+    lists: &Lists,
     user: u32,
+    process: Option<u32>,
     element: u32,
 ) {
+    let Lists {
+        grants,
+        bars,
+        classes,
+    } = lists;
     let mut reach = Pairs(graph.assigned);
     let (u, e) = (ElementId(user), ElementId(element));
-    for right in 0..64 {
-        let told = expected(graph, user, right, element);
-        let verdict = decide(&mut reach, grants, classes, u, right, e);
-        assert_eq!(rt; verdict, told, "{}: {user} {right} {element}", graph.shows);
+    for right in RIGHTS {
+        let told = expected(graph, user, process, right, element);
+        let verdict = decide(&mut reach, grants, bars, classes, u, process, right, e);
+        assert_eq!(rt;
+            plain(verdict),
+            told,
+            "{}: {user} {right} {element}",
+            graph.shows
+        );
         let has_right = privilege(&mut reach, grants, classes, u, right, e);
-        assert_eq!(rt; has_right, told == Verdict::Granted);
+        assert_eq!(rt; has_right, lacking(graph, user, right, element).is_none());
     }
+}
+
+fn expected_rights(graph: &Graph, user: u32, element: u32) -> Rights {
+    let mut rights = Rights(0);
+    for right in 0..64 {
+        if expected(graph, user, None, right, element) == Granted {
+            rights = rights.union(Rights::one(right));
+        }
+    }
+    rights
+}
+
+fn rights_agree_on(rt: &impl Abort, graph: &Graph, lists: &Lists, user: u32, element: u32) {
+    let Lists {
+        grants,
+        bars,
+        classes,
+    } = lists;
+    let told = expected_rights(graph, user, element);
+    let (u, e) = (ElementId(user), ElementId(element));
+    let rights = rights_of(&mut Pairs(graph.assigned), grants, bars, classes, u, e);
+    assert_eq!(rt; rights, told, "{}: {user} {element}", graph.shows);
 }
 
 fn agrees(rt: &(impl Abort + Alloc<A = Global>), graph: &Graph) -> Result<(), Fail> {
-    let grants = groups(rt.alloc(), graph)?;
-    let classes = classes(rt.alloc(), graph)?;
+    let lists = all_lists(rt.alloc(), graph)?;
     for user in 0..graph.size {
         for element in 0..graph.size {
-            agrees_on(rt, graph, &grants, &classes, user, element);
+            rights_agree_on(rt, graph, &lists, user, element);
+            for process in [None, Some(1), Some(2)] {
+                decisions_agree_on(rt, graph, &lists, user, process, element);
+            }
         }
     }
     Ok(())
@@ -243,13 +500,9 @@ fn decisions_agree_with_a_plain_program(rt: HostRuntime) -> Result<(), Fail> {
 #[test]
 fn verdicts_are_those_worked_out(rt: HostRuntime) {
     for graph in &GRAPHS {
-        for (user, right, element, class) in graph.told {
-            let verdict = match class {
-                None => Verdict::Granted,
-                Some(class) => Verdict::NoClass(ElementId(*class)),
-            };
-            let told = expected(graph, *user, *right, *element);
-            assert_eq!(rt; told, verdict, "{}: {user} {right} {element}", graph.shows);
+        for (user, process, right, element, verdict) in graph.told {
+            let told = expected(graph, *user, *process, *right, *element);
+            assert_eq!(rt; told, *verdict, "{}: {user} {right} {element}", graph.shows);
         }
     }
 }

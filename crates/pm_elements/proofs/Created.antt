@@ -1,5 +1,5 @@
 -- The table is kept where an element is made.
-use Rattle.std.proofs.Common.{◌≡◌, ℕ, ◌+◌, ◌<◌, ◌≤◌, Bool, true, false, List, [], ◌∷◌, length, length-append, length-set, eqb, Option, Some, None, is_some, IsSome, IfSome, option_map, bytes_eq, refl, sym, ap, ◌∙◌, arith, inl, inr, cond, nat_lt}
+use Rattle.std.proofs.Common.{◌≡◌, ℕ, ◌+◌, ◌<◌, ◌≤◌, true, false, List, [], ◌∷◌, length, length-append, length-set, eqb, Option, Some, None, is_some, IsSome, IfSome, option_map, bytes_eq, refl, sym, ap, ◌∙◌, arith, inl, inr}
 use Rattle.std.specs.Map.{lookup}
 use Rattle.std.specs.List.{list_any}
 use Rattle.std.proofs.lemmas.Bool.{cases_eq, false≢true, cases_lt}
@@ -8,6 +8,7 @@ use Rattle.pm_model.specs.Effect.{placed, with_pair}
 use Rattle.pm_model.specs.Formed.{IsLive}
 use Rattle.pm_model.specs.declared.elements.Element.{Element}
 use Rattle.pm_model.specs.declared.elements.Kind.{Kind}
+use Rattle.pm_laws.proofs.Numbers.{length-placed}
 use Rattle.pm_elements.specs.declared.slots.Slot.{Slot}
 use Rattle.pm_elements.specs.Kept.{Held, Kept, Named, Renames}
 use Rattle.pm_elements.specs.Slots.{shown, slot_at, element_of, first_free, with_slot, new_slot, joined, edited, with_parent, with_child, parents_of, children_of}
@@ -35,13 +36,6 @@ Held-placed slots pairs kind name h = record {
 
   s : Slot
   s = new_slot kind name None
-
-length-placed : (x : Element) (es : List Element) → length (placed x es) ≡ length es + 1
-length-placed x [] = refl
-length-placed x (e ∷ es) = go (nat_lt x.number e.number) (length-placed x es) where
-  go : (b : Bool) → length (placed x es) ≡ length es + 1 → length (cond b (x ∷ e ∷ es) (e ∷ placed x es)) ≡ length (e ∷ es) + 1
-  go true h = omega arith
-  go false h = omega arith
 
 length-with_slot : (slots : List (Option Slot)) (s : Slot) → length slots ≤ 16384 → length (shown slots) < 16384 → length (with_slot (first_free slots) s slots) ≤ 16384
 length-with_slot slots s few room = elim (cases_lt (first_free slots) (length slots)) [

@@ -8,17 +8,15 @@ use Rattle.pm_model.specs.State.{element_at, is_named, is_numbered, number_named
 use Rattle.pm_model.specs.Formed.{Each}
 use Rattle.pm_model.specs.declared.elements.Element.{Element}
 use Rattle.pm_model.specs.Effect.{placed}
+use Rattle.pm_laws.proofs.Items.{each-to}
 use Rattle.pm_elements.specs.Kept.{Named, Renames}
-use Rattle.pm_elements.proofs.Lists.{Each-placed, Each-map, Each-filter, element_at-placed, element_at-filtered}
+use Rattle.pm_elements.proofs.Lists.{is_some-map, Each-placed, Each-filter, element_at-placed, element_at-filtered}
 
 pub same_bytes : (xs ys : List ℕ) → bytes_eq xs ys ≡ true → xs ≡ ys
 same_bytes xs ys h = (bytes_eq-Decides xs ys).0 h
 
 pub bytes_same : (xs ys : List ℕ) → xs ≡ ys → bytes_eq xs ys ≡ true
 bytes_same xs ys e = (bytes_eq-Decides xs ys).1 e
-
-name_of : Option Element → Option (List ℕ)
-name_of o = option_map (λ (e : Element). e.name) o
 
 -- what is found by its name is known by it
 known_number : (es : List Element) (names : List (List ℕ × ℕ)) (q : List ℕ) (e : Element) → Each (λ d. lookup (bytes_eq d.name) names ≡ Some d.number) es
@@ -55,10 +53,6 @@ any-find p (x ∷ xs) = go (p x) (list_any p xs) (find p xs) x (any-find p xs) w
   go true t f x e = refl
   go false t f x e = e
 
-is_some-map : {X Y : Type 0} (f : X → Y) (o : Option X) → is_some (option_map f o) ≡ is_some o
-is_some-map f None = refl
-is_some-map f (Some x) = refl
-
 -- a name is taken exactly where it has a number
 pub any_named : (name : List ℕ) (es : List Element) → list_any (is_named name) es ≡ is_some (number_named es name)
 any_named name es = any-find (is_named name) es ∙ sym (is_some-map (λ (e : Element). e.number) (find (is_named name) es))
@@ -70,7 +64,7 @@ pub Named-placed : (es : List Element) (names names' : List (List ℕ × ℕ)) (
     → Renames x.name (Some x.number) names names' → Named (placed x es) names'
 Named-placed es names names' x h apart free changed = record {
   known = Each-placed (λ e. lookup (bytes_eq e.name) names' ≡ Some e.number) x es
-      (Each-map (λ e. lookup (bytes_eq e.name) names ≡ Some e.number) (λ e. lookup (bytes_eq e.name) names' ≡ Some e.number) old es h.known)
+      (each-to (λ e. lookup (bytes_eq e.name) names ≡ Some e.number) (λ e. lookup (bytes_eq e.name) names' ≡ Some e.number) old es h.known)
       (changed x.name ∙ rw (bytes_same x.name x.name refl) refl);
   found = λ q n is. there q n (bytes_eq x.name q) refl (sym (changed q) ∙ is);
 } where

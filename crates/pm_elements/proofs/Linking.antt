@@ -1,20 +1,19 @@
 -- The table is kept where an assignment is made or taken away.
 use Rattle.std.proofs.Common.{◌≡◌, ◌≢◌, ℕ, ◌+◌, ◌-◌, ◌<◌, ◌≤◌, Bool, true, false, not, List, [], ◌∷◌, ◌++◌, length, length-append, append-nil, map, filter, Option, Some, None, is_some, option_map, refl, sym, ap, ◌∙◌, arith, cond, eqb, ◌&&◌, ◌||◌, inl, inr}
 use Rattle.std.specs.List.{list_any}
-use Rattle.std.proofs.lemmas.Bool.{eq-eqb, eqb-true, cases_eq, true≢false, false≢true}
+use Rattle.std.proofs.lemmas.Bool.{ne_eqb, eq-eqb, eqb-true, cases_eq, true≢false, false≢true}
 use Rattle.std.proofs.lemmas.List.{map-append}
 use Rattle.std.proofs.lemmas.List.Elements.{filter-append}
+use Rattle.pm_laws.proofs.Items.{length-filter}
 use Rattle.pm_laws.proofs.Pairs.{once-push, once-filter, pair-is}
 use Rattle.pm_model.specs.Containment.{containers}
-use Rattle.pm_model.specs.Effect.{is_pair}
+use Rattle.pm_model.specs.Effect.{is_pair, is_to}
 use Rattle.pm_model.specs.Formed.{StandOnce}
 use Rattle.pm_elements.specs.declared.slots.Slot.{Slot}
-use Rattle.pm_elements.specs.Checks.{is_to}
 use Rattle.pm_model.specs.declared.elements.Element.{Element}
 use Rattle.pm_elements.specs.Kept.{Held, Kept}
 use Rattle.pm_elements.specs.Listed.{Listed}
 use Rattle.pm_elements.specs.Slots.{shown, slot_at, edited, linked, unlinked, with_parent, without_parent, with_child, without_child, parents_of, children_of}
-use Rattle.pm_elements.proofs.Lists.{ne-eqb}
 use Rattle.pm_elements.proofs.Edits.{slot_at-edited, slot_at-edited_other, length-edited, kept_by, shown-edited, some_edited, children_with_parent, children_without_parent, parents_with_child, parents_without_child}
 
 -- ---- the pairs
@@ -30,7 +29,7 @@ containers-push_same pairs x y = containers-append pairs ((x, y) ∷ []) x ∙ r
 pub containers-push_other : (pairs : List (ℕ × ℕ)) (x y z : ℕ) → z ≢ x → containers (pairs ++ (x, y) ∷ []) z ≡ containers pairs z
 containers-push_other pairs x y z h =
     let ne : x ≢ z = omega arith in
-    containers-append pairs ((x, y) ∷ []) z ∙ rw (ne-eqb x z ne) (append-nil (containers pairs z))
+    containers-append pairs ((x, y) ∷ []) z ∙ rw (ne_eqb x z ne) (append-nil (containers pairs z))
 
 abbrev pub count_to : List (ℕ × ℕ) → ℕ → ℕ
 count_to pairs y = length (filter (is_to y) pairs)
@@ -41,7 +40,7 @@ count-push_same pairs x y = ap (λ (l : List (ℕ × ℕ)). length l) (filter-ap
 pub count-push_other : (pairs : List (ℕ × ℕ)) (x y z : ℕ) → z ≢ y → count_to (pairs ++ (x, y) ∷ []) z ≡ count_to pairs z
 count-push_other pairs x y z h =
     let ne : y ≢ z = omega arith in
-    ap (λ (l : List (ℕ × ℕ)). length l) (filter-append (is_to z) pairs ((x, y) ∷ [])) ∙ rw (ne-eqb y z ne) (ap (λ (l : List (ℕ × ℕ)). length l) (append-nil (filter (is_to z) pairs)))
+    ap (λ (l : List (ℕ × ℕ)). length l) (filter-append (is_to z) pairs ((x, y) ∷ [])) ∙ rw (ne_eqb y z ne) (ap (λ (l : List (ℕ × ℕ)). length l) (append-nil (filter (is_to z) pairs)))
 
 pub count_few : (pairs : List (ℕ × ℕ)) (y : ℕ) → count_to pairs y ≤ length pairs
 count_few [] y = omega arith
@@ -162,7 +161,7 @@ less_parents : (y : ℕ) (o : Option Slot) → parents_of (option_map (without_p
 less_parents y None = refl
 less_parents y (Some s) = refl
 
-less_children : (o : Option Slot) → children_of (option_map without_child o) ≡ children_of o - 1
+pub less_children : (o : Option Slot) → children_of (option_map without_child o) ≡ children_of o - 1
 less_children None = refl
 less_children (Some s) = refl
 
@@ -192,13 +191,6 @@ shown-unlinked x y slots =
     shown-edited without_child (λ n s. refl) 0 y (edited (without_parent y) x slots)
     ∙ shown-edited (without_parent y) (λ n s. refl) 0 x slots
 
-pub length-filtered : {X : Type 0} (test : X → Bool) (xs : List X) → length (filter test xs) ≤ length xs
-length-filtered test [] = omega arith
-length-filtered {X} test (x ∷ xs) = go (test x) (length-filtered test xs) where
-  go : (b : Bool) → length (filter test xs) ≤ length xs → length (cond b (x ∷ filter test xs) (filter test xs)) ≤ length (x ∷ xs)
-  go true h = omega arith
-  go false h = omega arith
-
 pub Kept-unlinked : (slots : List (Option Slot)) (pairs : List (ℕ × ℕ)) (names : List (List ℕ × ℕ)) (live x y : ℕ) → Kept slots pairs names live
     → list_any (is_pair x y) pairs ≡ true → Kept (unlinked x y slots) (without x y pairs) names live
 Kept-unlinked slots pairs names live x y h there = record {
@@ -207,7 +199,7 @@ Kept-unlinked slots pairs names live x y h there = record {
   once = once-filter (λ pair. not (is_pair x y pair)) pairs h.once;
   counted = rw (shown-unlinked x y slots) h.counted;
   few = omega (arith, length-edited without_child y (edited (without_parent y) x slots), length-edited (without_parent y) x slots, h.few);
-  few_pairs = omega (arith, length-filtered (λ pair. not (is_pair x y pair)) pairs, h.few_pairs);
+  few_pairs = omega (arith, length-filter (λ pair. not (is_pair x y pair)) pairs, h.few_pairs);
 }
 
 pub same_table : {elements elements' : List Element} {assigned assigned' : List (ℕ × ℕ)} → elements ≡ elements' → assigned ≡ assigned'

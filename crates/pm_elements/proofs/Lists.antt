@@ -1,13 +1,14 @@
 -- Lists of elements: one more at its place, and one taken out.
-use Rattle.std.proofs.Common.{◌≡◌, ◌≢◌, ℕ, Bool, true, false, not, List, [], ◌∷◌, filter, Option, Some, None, refl, sym, ◌∙◌, cond, eqb, nat_lt}
-use Rattle.std.proofs.lemmas.Bool.{eq-eqb, false_from_ne_true, eqb-true, true≢false}
+use Rattle.std.proofs.Common.{◌≡◌, ℕ, Bool, true, false, not, List, [], ◌∷◌, filter, Option, Some, None, is_some, option_map, refl, sym, ◌∙◌, cond, eqb, nat_lt}
+use Rattle.std.proofs.lemmas.Bool.{eq-eqb, eqb-true, true≢false}
 use Rattle.pm_model.specs.State.{element_at, is_numbered}
 use Rattle.pm_model.specs.Effect.{placed}
 use Rattle.pm_model.specs.Formed.{Each}
 use Rattle.pm_model.specs.declared.elements.Element.{Element}
 
-pub ne-eqb : (a b : ℕ) → a ≢ b → eqb a b ≡ false
-ne-eqb a b h = false_from_ne_true (eqb a b) (λ t. h (eqb-true a b t))
+pub is_some-map : {X Y : Type 0} (f : X → Y) (o : Option X) → is_some (option_map f o) ≡ is_some o
+is_some-map f None = refl
+is_some-map f (Some x) = refl
 
 -- ---- each item
 
@@ -24,10 +25,6 @@ Each-filter {X} P Q test f (x ∷ xs) h = go (test x) refl (Each-filter P Q test
   go : (b : Bool) → test x ≡ b → Each Q (filter test xs) → Each Q (cond b (x ∷ filter test xs) (filter test xs))
   go true t rest = (f x t h.0, rest)
   go false t rest = rest
-
-pub Each-map : {X : Type 0} (P Q : X → Type 0) → ((x : X) → P x → Q x) → (xs : List X) → Each P xs → Each Q xs
-Each-map P Q f [] h = tt
-Each-map P Q f (x ∷ xs) h = (f x h.0, Each-map P Q f xs h.1)
 
 -- ---- the element of a number
 

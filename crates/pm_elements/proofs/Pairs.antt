@@ -1,11 +1,11 @@
 -- What the slots hold is what the pairs say.
 use Rattle.std.proofs.Common.{◌≡◌, ℕ, ◌<◌, Bool, true, false, List, [], ◌∷◌, length, filter, map, Option, Some, slice_get, refl, sym, ap, ◌∙◌, arith, cond, eqb, ◌||◌, ◌&&◌, ltb, zero, suc, None, is_some}
 use Rattle.std.proofs.lemmas.Bool.{eq-eqb, true≢false, lt-ltb, ltb-false}
+use Rattle.std.proofs.lemmas.List.{length-map}
 use Rattle.std.specs.List.{list_any}
 use Rattle.pm_model.specs.Containment.{containers}
-use Rattle.pm_model.specs.Effect.{is_pair, is_from}
+use Rattle.pm_model.specs.Effect.{is_pair, is_from, is_to, has_child}
 use Rattle.pm_elements.specs.declared.slots.Slot.{Slot}
-use Rattle.pm_elements.specs.Checks.{is_to, has_child}
 use Rattle.pm_elements.specs.Kept.{Held}
 use Rattle.pm_elements.specs.Slots.{slot_at, parents_of, children_of}
 
@@ -22,13 +22,9 @@ pub pair_held : (slots : List (Option Slot)) (pairs : List (ℕ × ℕ)) (x y : 
     → list_any (is_pair x y) pairs ≡ list_any (λ z. eqb z y) (parents_of (slot_at slots x))
 pair_held slots pairs x y h = rw (h.parents x) (pair_among pairs x y)
 
-length-map_here : (f : ℕ × ℕ → ℕ) (xs : List (ℕ × ℕ)) → length (map f xs) ≡ length xs
-length-map_here f [] = refl
-length-map_here f (x ∷ xs) = let rest = length-map_here f xs in omega arith
-
 pub count_held : (slots : List (Option Slot)) (pairs : List (ℕ × ℕ)) (x : ℕ) → Held slots pairs
     → length (filter (is_from x) pairs) ≡ length (parents_of (slot_at slots x))
-count_held slots pairs x h = rw (h.parents x) (sym (length-map_here (λ pair. pair.1) (filter (is_from x) pairs)))
+count_held slots pairs x h = rw (h.parents x) (sym (length-map (filter (is_from x) pairs) (λ (pair : ℕ × ℕ). pair.1)))
 
 any-count : {X : Type 0} (p : X → Bool) (xs : List X) → list_any p xs ≡ ltb 0 (length (filter p xs))
 any-count p [] = refl
@@ -44,10 +40,6 @@ child_held slots pairs y h = rw (h.children y) (any-count (is_to y) pairs)
 pub container_child : (pairs : List (ℕ × ℕ)) (x i w : ℕ) → slice_get (containers pairs x) i ≡ Some w → 0 < length (filter (is_to w) pairs)
 container_child [] x i w h = cc
 container_child (p ∷ pairs) x i w h = go (eqb p.0 x) (eqb p.1 w) i refl refl (λ j. container_child pairs x j w) h where
-  more : (b : Bool) (n : ℕ) → 0 < length (filter (is_to w) pairs) → 0 < length (cond b (p ∷ filter (is_to w) pairs) (filter (is_to w) pairs))
-  more true n h = omega arith
-  more false n h = h
-
   go : (a b : Bool) (j : ℕ) → eqb p.0 x ≡ a → eqb p.1 w ≡ b → ((k : ℕ) → slice_get (containers pairs x) k ≡ Some w → 0 < length (filter (is_to w) pairs))
       → slice_get (map (λ (pair : ℕ × ℕ). pair.1) (cond a (p ∷ filter (λ (pair : ℕ × ℕ). eqb pair.0 x) pairs) (filter (λ (pair : ℕ × ℕ). eqb pair.0 x) pairs))) j ≡ Some w
       → 0 < length (cond b (p ∷ filter (is_to w) pairs) (filter (is_to w) pairs))

@@ -1,12 +1,11 @@
 -- A new element at the first number that is free.
 use Rattle.std.proofs.Common.{◌≡◌, ◌≢◌, ℕ, zero, suc, ◌+◌, ◌<◌, ◌≤◌, true, List, [], ◌∷◌, ◌++◌, length, Option, Some, None, is_some, IsSome, IfSome, inl, inr, set, refl, sym, ap, ◌∙◌, arith}
-use Rattle.std.proofs.lemmas.Bool.{eq-eqb, le-ltb, lt-ltb, cases_eq, false≢true}
+use Rattle.std.proofs.lemmas.Bool.{ne_eqb, eq-eqb, le-ltb, lt-ltb, cases_eq, false≢true}
 use Rattle.pm_model.specs.Effect.{placed}
 use Rattle.pm_model.specs.Resolve.{unused_from, unused}
 use Rattle.pm_model.specs.declared.elements.Element.{Element}
 use Rattle.pm_elements.specs.declared.slots.Slot.{Slot}
 use Rattle.pm_elements.specs.Slots.{shown_from, shown, slot_at, element_of, first_free, with_slot, edited, children_of}
-use Rattle.pm_elements.proofs.Lists.{ne-eqb}
 
 -- ---- the slots
 
@@ -96,7 +95,7 @@ none_free slots h = none_free_from 0 slots h
 starts : (n m : ℕ) (slots : List (Option Slot)) → m < n → unused_from m (shown_from n slots) ≡ m
 starts n m [] h = refl
 starts n m (None ∷ slots) h = starts (n + 1) m slots (omega arith)
-starts n m (Some s ∷ slots) h = let ne : n ≢ m = omega arith in rw (ne-eqb n m ne) refl
+starts n m (Some s ∷ slots) h = let ne : n ≢ m = omega arith in rw (ne_eqb n m ne) refl
 
 unused-shown_from : (n : ℕ) (slots : List (Option Slot)) → unused_from n (shown_from n slots) ≡ n + first_free slots
 unused-shown_from n [] = omega arith

@@ -1,18 +1,17 @@
 -- The table is kept where an element is taken out with its assignments.
 use Rattle.std.proofs.Common.{◌≡◌, ◌≢◌, ℕ, zero, suc, ◌+◌, ◌-◌, ◌<◌, Bool, true, false, not, List, [], ◌∷◌, length, length-set, get_or, drop, set, map, filter, Option, Some, None, is_some, IsSome, IfSome, slice_get, option_map, refl, sym, ap, ◌∙◌, arith, inl, inr, cond, eqb}
-use Rattle.std.proofs.lemmas.Bool.{eq-eqb, eqb-true, cases_eq, false≢true}
+use Rattle.std.proofs.lemmas.Bool.{ne_eqb, eq-eqb, eqb-true, cases_eq, false≢true}
+use Rattle.pm_laws.proofs.Items.{length-filter}
 use Rattle.pm_laws.proofs.Pairs.{once-filter}
 use Rattle.pm_model.specs.Containment.{containers}
 use Rattle.pm_model.specs.State.{is_numbered}
-use Rattle.pm_model.specs.Effect.{is_from}
+use Rattle.pm_model.specs.Effect.{is_from, is_to, has_child}
 use Rattle.pm_model.specs.declared.elements.Element.{Element}
 use Rattle.pm_elements.specs.declared.slots.Slot.{Slot}
-use Rattle.pm_elements.specs.Checks.{is_to, has_child}
 use Rattle.pm_elements.specs.Kept.{Held, Kept, Renames}
 use Rattle.pm_elements.specs.Slots.{shown_from, shown, slot_at, element_of, edited, without_child, parents_of, children_of, released, removed}
 use Rattle.pm_elements.proofs.Edits.{slot_at-set_same, slot_at-set_other, slot_at-edited, slot_at-edited_other, length-edited, kept_by, shown-edited, parents_without_child}
-use Rattle.pm_elements.proofs.Lists.{ne-eqb}
-use Rattle.pm_elements.proofs.Linking.{count_to, length-filtered}
+use Rattle.pm_elements.proofs.Linking.{count_to, less_children}
 use Rattle.pm_elements.proofs.Found.{Named-filtered}
 use Rattle.pm_elements.proofs.Pairs.{container_child, parent_taken, no_child}
 use Rattle.pm_elements.proofs.Shown.{element_at-shown, slot_at-below}
@@ -29,14 +28,14 @@ released_more (p ∷ ps) slots (suc i) y below is = let next : suc i + 1 ≡ suc
 keep_above : (n m : ℕ) (slots : List (Option Slot)) → m < n → filter (λ e. not (is_numbered m e)) (shown_from n slots) ≡ shown_from n slots
 keep_above n m [] h = refl
 keep_above n m (None ∷ slots) h = keep_above (n + 1) m slots (omega arith)
-keep_above n m (Some s ∷ slots) h = let other : n ≢ m = omega arith in rw (ne-eqb n m other) (ap (λ (es : List Element). element_of n s ∷ es) (keep_above (n + 1) m slots (omega arith)))
+keep_above n m (Some s ∷ slots) h = let other : n ≢ m = omega arith in rw (ne_eqb n m other) (ap (λ (es : List Element). element_of n s ∷ es) (keep_above (n + 1) m slots (omega arith)))
 
 shown-freed_from : (n k m : ℕ) (slots : List (Option Slot)) → m ≡ n + k → shown_from n (set slots k None) ≡ filter (λ e. not (is_numbered m e)) (shown_from n slots)
 shown-freed_from n k m [] e = refl
 shown-freed_from n zero m (None ∷ slots) e = sym (keep_above (n + 1) m slots (omega arith))
 shown-freed_from n zero m (Some s ∷ slots) e = rw (eq-eqb n m (omega arith)) (sym (keep_above (n + 1) m slots (omega arith)))
 shown-freed_from n (suc k) m (None ∷ slots) e = shown-freed_from (n + 1) k m slots (omega arith)
-shown-freed_from n (suc k) m (Some s ∷ slots) e = let other : n ≢ m = omega arith in rw (ne-eqb n m other) (ap (λ (es : List Element). element_of n s ∷ es) (shown-freed_from (n + 1) k m slots (omega arith)))
+shown-freed_from n (suc k) m (Some s ∷ slots) e = let other : n ≢ m = omega arith in rw (ne_eqb n m other) (ap (λ (es : List Element). element_of n s ∷ es) (shown-freed_from (n + 1) k m slots (omega arith)))
 
 shown-released : (ps : List ℕ) (slots : List (Option Slot)) → shown (released ps slots) ≡ shown slots
 shown-released [] slots = refl
@@ -103,20 +102,16 @@ parents-released : (ps : List ℕ) (slots : List (Option Slot)) (z : ℕ) → pa
 parents-released [] slots z = refl
 parents-released (y ∷ ps) slots z = parents-released ps (edited without_child y slots) z ∙ kept_by parents_of without_child parents_without_child y z slots
 
-children-less : (o : Option Slot) → children_of (option_map without_child o) ≡ children_of o - 1
-children-less None = refl
-children-less (Some s) = refl
-
 children-released : (ps : List ℕ) (slots : List (Option Slot)) (z : ℕ) → children_of (slot_at (released ps slots) z) ≡ children_of (slot_at slots z) - count_in z ps
 children-released [] slots z = omega arith
 children-released (y ∷ ps) slots z = elim (cases_eq z y) [
   | inl same ↦ rw (eq-eqb y z (sym same)) (here same (children-released ps (edited without_child y slots) z))
-  | inr other ↦ let apart : y ≢ z = omega arith in rw (ne-eqb y z apart) (there other (children-released ps (edited without_child y slots) z))
+  | inr other ↦ let apart : y ≢ z = omega arith in rw (ne_eqb y z apart) (there other (children-released ps (edited without_child y slots) z))
 ] where
   here : z ≡ y → children_of (slot_at (released ps (edited without_child y slots)) z) ≡ children_of (slot_at (edited without_child y slots) z) - count_in z ps
       → children_of (slot_at (released ps (edited without_child y slots)) z) ≡ children_of (slot_at slots z) - (1 + count_in z ps)
   here same rest =
-      let less : children_of (slot_at (edited without_child y slots) z) ≡ children_of (slot_at slots z) - 1 = rw same (ap children_of (slot_at-edited without_child y slots) ∙ children-less (slot_at slots y)) in
+      let less : children_of (slot_at (edited without_child y slots) z) ≡ children_of (slot_at slots z) - 1 = rw same (ap children_of (slot_at-edited without_child y slots) ∙ less_children (slot_at slots y)) in
       omega (arith, rest, less)
 
   there : z ≢ y → children_of (slot_at (released ps (edited without_child y slots)) z) ≡ children_of (slot_at (edited without_child y slots) z) - count_in z ps
@@ -171,7 +166,7 @@ Kept-removed slots pairs names names' live live' n h there none changed fewer = 
     once = once-filter (λ pair. not (is_from n pair)) pairs h.once;
     counted = omega (arith, one_less n slots there, h.counted);
     few = omega (arith, length-released (parents_of (slot_at slots n)) (set slots n None), length-set slots n None, h.few);
-    few_pairs = omega (arith, length-filtered (λ pair. not (is_from n pair)) pairs, h.few_pairs);
+    few_pairs = omega (arith, length-filter (λ pair. not (is_from n pair)) pairs, h.few_pairs);
   }
 
 -- what an element without children is assigned to stays live

@@ -1,13 +1,13 @@
 -- The elements that the slots show.
 use Rattle.std.proofs.Common.{◌≡◌, ◌≢◌, ℕ, zero, suc, ◌+◌, ◌<◌, true, List, [], ◌∷◌, length, Option, Some, None, is_some, option_map, refl, sym, ap, ◌∙◌, arith, get_or}
-use Rattle.std.proofs.lemmas.Bool.{eq-eqb, false≢true}
+use Rattle.std.proofs.lemmas.Bool.{ne_eqb, eq-eqb, false≢true}
 use Rattle.pm_model.specs.State.{element, element_at, name_numbered, name_or_none}
 use Rattle.pm_model.specs.Effect.{both, may_assign, may_create}
 use Rattle.pm_model.specs.declared.elements.Kind.{Kind}
 use Rattle.pm_model.specs.Formed.{IsLive}
 use Rattle.pm_model.specs.declared.elements.Element.{Element}
 use Rattle.pm_elements.specs.declared.slots.Slot.{Slot}
-use Rattle.pm_elements.proofs.Lists.{ne-eqb}
+use Rattle.pm_elements.proofs.Lists.{is_some-map}
 use Rattle.pm_elements.specs.Slots.{shown_from, shown, slot_at, element_of}
 
 -- no slot has a number below the first
@@ -16,7 +16,7 @@ element_at-below n k [] below = refl
 element_at-below n k (None ∷ slots) below = element_at-below (n + 1) k slots (omega arith)
 element_at-below n k (Some s ∷ slots) below =
     let ne : n ≢ k = omega arith in
-    rw (ne-eqb n k ne) (element_at-below (n + 1) k slots (omega arith))
+    rw (ne_eqb n k ne) (element_at-below (n + 1) k slots (omega arith))
 
 -- the element of a number is that of its slot
 pub element_at-shown_from : (n k m : ℕ) (slots : List (Option Slot)) → m ≡ n + k → element_at (shown_from n slots) m ≡ option_map (element_of m) (slot_at slots k)
@@ -28,14 +28,10 @@ element_at-shown_from n zero m (Some s ∷ slots) e =
 element_at-shown_from n (suc k) m (None ∷ slots) e = element_at-shown_from (n + 1) k m slots (omega arith)
 element_at-shown_from n (suc k) m (Some s ∷ slots) e =
     let ne : n ≢ m = omega arith in
-    rw (ne-eqb n m ne) (element_at-shown_from (n + 1) k m slots (omega arith))
+    rw (ne_eqb n m ne) (element_at-shown_from (n + 1) k m slots (omega arith))
 
 pub element_at-shown : (k : ℕ) (slots : List (Option Slot)) → element_at (shown slots) k ≡ option_map (element_of k) (slot_at slots k)
 element_at-shown k slots = element_at-shown_from 0 k k slots (omega arith)
-
-is_some-map : {X Y : Type 0} (f : X → Y) (o : Option X) → is_some (option_map f o) ≡ is_some o
-is_some-map f None = refl
-is_some-map f (Some x) = refl
 
 -- an element is live exactly where its slot is taken
 pub live_shown : (k : ℕ) (slots : List (Option Slot)) → is_some (element_at (shown slots) k) ≡ is_some (slot_at slots k)

@@ -1,8 +1,8 @@
 -- What the calls of the table alone refuse, and what its questions answer.
-use Rattle.std.specs.Prelude.{ℕ, Bool, ◌==◌, nat_le, List, [], ◌∷◌, length, Option, option_map, find}
+use Rattle.std.specs.Prelude.{ℕ, Bool, nat_le, List, [], ◌∷◌, length, Option, option_map, find}
 use Rattle.std.specs.List.{list_any}
 use Rattle.pm_model.specs.State.{is_named}
-use Rattle.pm_model.specs.Effect.{max_elements}
+use Rattle.pm_model.specs.Effect.{max_elements, has_child}
 use Rattle.pm_model.specs.declared.elements.Element.{Element}
 use Rattle.pm_model.specs.declared.replies.Refusal.{Refusal}
 use Rattle.pm_model.specs.declared.replies.Refusal.TheVariants.{NameTaken, Occupied, Full}
@@ -11,13 +11,6 @@ use Rattle.pm_model.specs.declared.replies.Table.TheVariants.{Elements}
 -- an element without a container
 abbrev pub add_checks : List Element → List ℕ → List (Bool × Refusal)
 add_checks es name = (list_any (is_named name) es, NameTaken) ∷ (nat_le max_elements (length es), Full Elements) ∷ []
-
-abbrev pub is_to : ℕ → (ℕ × ℕ) → Bool
-is_to y pair = pair.1 == y
-
--- whether something is assigned to the element
-abbrev pub has_child : List (ℕ × ℕ) → ℕ → Bool
-has_child pairs y = list_any (is_to y) pairs
 
 abbrev pub remove_checks : List (ℕ × ℕ) → ℕ → List (Bool × Refusal)
 remove_checks pairs y = (has_child pairs y, Occupied) ∷ []

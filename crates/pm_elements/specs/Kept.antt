@@ -7,7 +7,7 @@ use Rattle.pm_model.specs.Formed.{Each, StandOnce}
 use Rattle.pm_model.specs.declared.elements.Element.{Element}
 use Rattle.pm_elements.specs.declared.slots.Slot.{Slot}
 use Rattle.pm_elements.specs.declared.table.Elements.TheInside.{Inside}
-use Rattle.pm_elements.specs.Checks.{is_to}
+use Rattle.pm_model.specs.Effect.{is_to}
 use Rattle.pm_elements.specs.Listed.{Listed}
 use Rattle.pm_elements.specs.Slots.{shown, slot_at, parents_of, children_of}
 

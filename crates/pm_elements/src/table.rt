@@ -3,12 +3,12 @@
 ghost use Rattle.std.specs.Prelude.{◌≡◌, ◌≢◌, [], ◌∷◌, ◌++◌, ◌<◌, true, false, None, Some, OnOk, OnErr, IfOk, IfErr, IfSome, is_some, option_map, length, filter, not};
 ghost use Rattle.std.specs.List.{list_any};
 ghost use Rattle.pm_model.specs.Containment.{contained};
-ghost use Rattle.pm_model.specs.Effect.{may_create, may_assign, both, is_pair, is_from, placed, with_pair, create_checks, assign_checks, deassign_checks, IsCause};
+ghost use Rattle.pm_model.specs.Effect.{may_create, may_assign, both, is_pair, is_from, placed, with_pair, create_checks, assign_checks, deassign_checks, IsCause, has_child};
 ghost use Rattle.pm_model.specs.Name.{is_name};
 ghost use Rattle.pm_model.specs.Resolve.{unused};
 ghost use Rattle.pm_model.specs.Results.{first_of};
 ghost use Rattle.pm_elements.specs.Told.{told, IsCycleOf};
-ghost use Rattle.pm_elements.specs.Checks.{add_checks, remove_checks, has_child, least_from};
+ghost use Rattle.pm_elements.specs.Checks.{add_checks, remove_checks, least_from};
 ghost use Rattle.pm_model.specs.State.{element, element_at, is_named, is_numbered, number_named, name_numbered, opening_elements, opening_assigned};
 ghost use Rattle.pm_model.specs.Formed.{IsLive};
 ghost use Rattle.pm_model.specs.declared.elements.Element.{Element};

@@ -1,3 +1,5 @@
+//! Which calls are to fail, and how many there were.
+
 ghost use Rattle.std.specs.Prelude.{◌≡◌, ◌↔◌, IfOk, IsTrue, Contains};
 ghost use Rattle.pm_io.specs.Devices.{raised};
 

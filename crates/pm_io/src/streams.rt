@@ -1,3 +1,5 @@
+//! A source and a sink over std's readers and writers.
+
 ghost use Rattle.std.specs.Prelude.{◌≡◌, take, IfOk, OnOk, OnErr, MatchResult};
 ghost use Rattle.std.specs.Io.{ReadsAtMost, WritesAtMost};
 ghost use Rattle.std.specs.Io.KnownBytes.{ReadConsumes, Appends};

@@ -1,3 +1,5 @@
+//! What reads and writes answer, one after another, with chosen calls failing.
+
 use crate::{CalmSink, CalmSource, MemSink, MemSource, StdSink, StdSource};
 use pm_model::{Failed, Sink, Source};
 use std::io::{Error, ErrorKind, Write};

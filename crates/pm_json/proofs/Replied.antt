@@ -15,7 +15,9 @@ use Rattle.pm_model.specs.declared.replies.Refusal.TheVariants as refusal
 use Rattle.pm_model.specs.declared.replies.Table.{Table}
 use Rattle.pm_model.specs.declared.replies.Table.TheVariants as table
 use Rattle.pm_model.specs.declared.replies.Reply.TheVariants.{Done, Granted, Bad, Ahead, Refused}
-use Rattle.pm_json.specs.Shown.{Shown, plain, denied}
+use Rattle.pm_model.specs.declared.replies.Shown as made
+use Rattle.pm_model.specs.declared.replies.Shown.TheVariants as shown
+use Rattle.pm_json.specs.Shown.{Shown, plain, denied, prohibited}
 
 pub record Said : Type 0 where
   pub id : Option ℕ
@@ -29,14 +31,29 @@ beside (p ∷ ps) w = if bytes_eq w (word_text p.0) then Some p.1 else beside ps
 
 abbrev pub field_words : List (Word × Field)
 field_words =
-    (word.Id, field.Id) ∷ (word.After, field.After) ∷ (word.Proc, field.Proc) ∷ (word.Name, field.Name) ∷ (word.Into, field.Into)
-    ∷ (word.From, field.From) ∷ (word.To, field.To) ∷ (word.Ua, field.Ua) ∷ (word.At, field.At) ∷ (word.Target, field.Target)
-    ∷ (word.Right, field.Right) ∷ (word.Rights, field.Rights) ∷ []
+    (word.Id, field.Id) ∷ (word.After, field.After) ∷ (word.Proc, field.Proc) ∷ (word.Process, field.Process)
+    ∷ (word.Session, field.Session) ∷ (word.Name, field.Name) ∷ (word.Into, field.Into) ∷ (word.From, field.From)
+    ∷ (word.To, field.To) ∷ (word.Ua, field.Ua) ∷ (word.At, field.At) ∷ (word.User, field.User) ∷ (word.Target, field.Target)
+    ∷ (word.Right, field.Right) ∷ (word.Rights, field.Rights) ∷ (word.Inc, field.Inc) ∷ (word.Exc, field.Exc)
+    ∷ (word.Mode, field.Mode) ∷ (word.Subject, field.Subject) ∷ []
 
 abbrev pub table_words : List (Word × Table)
 table_words =
     (word.Elements, table.Elements) ∷ (word.Assignments, table.Assignments) ∷ (word.Associations, table.Associations)
-    ∷ (word.History, table.History) ∷ []
+    ∷ (word.Prohibitions, table.Prohibitions) ∷ (word.Sessions, table.Sessions) ∷ (word.Processes, table.Processes)
+    ∷ (word.Rights, table.Rights) ∷ (word.History, table.History) ∷ []
+
+-- by the number of a process, or else of a session
+abbrev pub made_by : Option ℕ → Option ℕ → made.Shown
+made_by (Some n) _ = shown.Process n
+made_by None (Some n) = shown.Session n
+made_by None None = shown.Nothing
+
+-- for a class, or else for a prohibition
+abbrev pub denied_by : List ℕ → List ℕ → Option (List ℕ) → Option (List ℕ) → Option Shown
+denied_by right target (Some pc) _ = Some (denied right target pc)
+denied_by right target None (Some prohibition) = Some (prohibited right target prohibition)
+denied_by right target None None = None
 
 module _ (look : List ℕ → Option Data) where
   abbrev pub text_at : Key → Option (List ℕ)
@@ -44,6 +61,12 @@ module _ (look : List ℕ → Option Data) where
 
   abbrev pub name_at : Key → Option (List ℕ)
   name_at k = option_and_then name_form (look (key_text k))
+
+  abbrev pub number_at : Key → Option ℕ
+  number_at k = option_and_then whole_form (look (key_text k))
+
+  abbrev pub done : Shown
+  done = plain (Done (made_by (number_at key.Process) (number_at key.Session)))
 
   abbrev pub bad_field : Option Shown
   bad_field = option_map (λ f. plain (Bad (BadField f))) (option_and_then (beside field_words) (text_at key.Field))
@@ -53,33 +76,36 @@ module _ (look : List ℕ → Option Data) where
 
   abbrev pub denial : Option Shown
   denial =
-      option_and_then (λ right. option_and_then (λ target. option_map (λ pc. denied right target pc)
-      (name_at key.Class)) (name_at key.Target)) (name_at key.Right)
+      option_and_then (λ right. option_and_then (λ target. denied_by right target (name_at key.Class) (name_at key.Prohibition))
+      (name_at key.Target)) (name_at key.Right)
 
   abbrev pub full : Option Shown
   full = option_map (λ t. plain (Refused (refusal.Full t))) (option_and_then (beside table_words) (text_at key.Table))
 
   abbrev pub ok_words : List (Word × Shown)
-  ok_words = (word.Done, plain Done) ∷ (word.Granted, plain Granted) ∷ []
+  ok_words = (word.Done, done) ∷ (word.Granted, plain Granted) ∷ []
 
   abbrev pub no_words : List (Word × Option Shown)
   no_words =
       (word.TooLong, Some (plain (Bad TooLong))) ∷ (word.NotJson, Some (plain (Bad NotJson)))
       ∷ (word.NotRequest, Some (plain (Bad NotRequest))) ∷ (word.UnknownCommand, Some (plain (Bad UnknownCommand)))
       ∷ (word.BadField, bad_field) ∷ (word.Ahead, Some (plain Ahead))
-      ∷ (word.UnknownProcess, Some (plain (Refused refusal.UnknownProcess))) ∷ (word.UnknownName, unknown_name)
+      ∷ (word.UnknownProcess, Some (plain (Refused refusal.UnknownProcess)))
+      ∷ (word.UnknownSession, Some (plain (Refused refusal.UnknownSession))) ∷ (word.UnknownName, unknown_name)
       ∷ (word.Denied, denial) ∷ (word.BadKinds, Some (plain (Refused refusal.BadKinds)))
       ∷ (word.NameTaken, Some (plain (Refused refusal.NameTaken))) ∷ (word.Already, Some (plain (Refused refusal.Already)))
       ∷ (word.Absent, Some (plain (Refused refusal.Absent))) ∷ (word.Cycle, Some (plain (Refused refusal.Cycle)))
-      ∷ (word.Occupied, Some (plain (Refused refusal.Occupied))) ∷ (word.LastContainer, Some (plain (Refused refusal.LastContainer)))
-      ∷ (word.Builtin, Some (plain (Refused refusal.Builtin))) ∷ (word.Full, full) ∷ []
+      ∷ (word.Occupied, Some (plain (Refused refusal.Occupied))) ∷ (word.InUse, Some (plain (Refused refusal.InUse)))
+      ∷ (word.LastContainer, Some (plain (Refused refusal.LastContainer)))
+      ∷ (word.Builtin, Some (plain (Refused refusal.Builtin))) ∷ (word.EmptyRange, Some (plain (Refused refusal.EmptyRange)))
+      ∷ (word.Full, full) ∷ []
 
   -- by the word at `no`, or else at `ok`
   abbrev pub shown_from : Option (List ℕ) → Option Shown
   shown_from None = option_and_then (beside ok_words) (text_at key.Ok)
-  shown_from (Some w) = option_and_then (λ shown. shown) (beside no_words w)
+  shown_from (Some w) = option_and_then (λ what. what) (beside no_words w)
 
   abbrev pub said : Option Said
   said =
-      option_and_then (λ shown. option_map (λ version. record { id = option_and_then whole_form (look (key_text key.Id)); version = version; shown = shown })
-      (option_and_then whole_form (look (key_text key.V)))) (shown_from (text_at key.No))
+      option_and_then (λ what. option_map (λ version. record { id = number_at key.Id; version = version; shown = what })
+      (number_at key.V)) (shown_from (text_at key.No))

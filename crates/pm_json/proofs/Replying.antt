@@ -23,8 +23,10 @@ use Rattle.pm_model.specs.declared.replies.Table.TheVariants as table
 use Rattle.pm_model.specs.declared.replies.Reply.{Reply}
 use Rattle.pm_model.specs.declared.replies.Reply.TheVariants.{Done, Granted, Bad, Ahead, Refused}
 use Rattle.pm_model.specs.declared.replies.Reason.{Reason}
-use Rattle.pm_model.specs.declared.replies.Reason.TheVariants.{Class}
-use Rattle.pm_json.specs.Printable.{names_in, names_in_refusal, names_in_reason, ShowsNames, IsPrintable}
+use Rattle.pm_model.specs.declared.replies.Reason.TheVariants.{Class, Prohibition}
+use Rattle.pm_model.specs.declared.replies.Shown as made
+use Rattle.pm_model.specs.declared.replies.Shown.TheVariants as shows
+use Rattle.pm_json.specs.Printable.{names_in, names_in_refusal, names_in_reason, numbers_in, numbers_in_shown, ShowsNames, ShowsNumbers, IsPrintable}
 use Rattle.pm_json.specs.Shown.{Shown, shown}
 use Rattle.pm_json.proofs.Bounds.{plain-word}
 use Rattle.pm_json.proofs.Fair.{read-compact}
@@ -61,15 +63,22 @@ module _ (id : Option ℕ) (v : ℕ) (names : ℕ → List ℕ) where
   told_bad (BadField field.Id) = rw (or_none (whole_if id), number_told id) refl
   told_bad (BadField field.After) = rw (or_none (whole_if id), number_told id) refl
   told_bad (BadField field.Proc) = rw (or_none (whole_if id), number_told id) refl
+  told_bad (BadField field.Process) = rw (or_none (whole_if id), number_told id) refl
+  told_bad (BadField field.Session) = rw (or_none (whole_if id), number_told id) refl
   told_bad (BadField field.Name) = rw (or_none (whole_if id), number_told id) refl
   told_bad (BadField field.Into) = rw (or_none (whole_if id), number_told id) refl
   told_bad (BadField field.From) = rw (or_none (whole_if id), number_told id) refl
   told_bad (BadField field.To) = rw (or_none (whole_if id), number_told id) refl
   told_bad (BadField field.Ua) = rw (or_none (whole_if id), number_told id) refl
   told_bad (BadField field.At) = rw (or_none (whole_if id), number_told id) refl
+  told_bad (BadField field.User) = rw (or_none (whole_if id), number_told id) refl
   told_bad (BadField field.Target) = rw (or_none (whole_if id), number_told id) refl
   told_bad (BadField field.Right) = rw (or_none (whole_if id), number_told id) refl
   told_bad (BadField field.Rights) = rw (or_none (whole_if id), number_told id) refl
+  told_bad (BadField field.Inc) = rw (or_none (whole_if id), number_told id) refl
+  told_bad (BadField field.Exc) = rw (or_none (whole_if id), number_told id) refl
+  told_bad (BadField field.Mode) = rw (or_none (whole_if id), number_told id) refl
+  told_bad (BadField field.Subject) = rw (or_none (whole_if id), number_told id) refl
 
   told_denied : (right : List ℕ) (target : ℕ) (reason : Reason) → ShowsNames (right ∷ names target ∷ names_in_reason names reason)
       → Told id v names (Refused (refusal.Denied right target reason))
@@ -77,28 +86,44 @@ module _ (id : Option ℕ) (v : ℕ) (names : ℕ → List ℕ) where
   told_denied right target (Class pc) h =
       let r = h.0 in let t = h.1.0 in let p = h.1.1.0 in
       rw (or_none (whole_if id), number_told id, r, t, p) refl
+  told_denied right target (Prohibition name) h =
+      let r = h.0 in let t = h.1.0 in let p = h.1.1.0 in
+      rw (or_none (whole_if id), number_told id, r, t, p) refl
 
   told_refused : (why : Refusal) → ShowsNames (names_in_refusal names why) → Told id v names (Refused why)
   unfolding key_text word_text
   told_refused refusal.UnknownProcess h = rw (or_none (whole_if id), number_told id) refl
+  told_refused refusal.UnknownSession h = rw (or_none (whole_if id), number_told id) refl
   told_refused refusal.BadKinds h = rw (or_none (whole_if id), number_told id) refl
   told_refused refusal.NameTaken h = rw (or_none (whole_if id), number_told id) refl
   told_refused refusal.Already h = rw (or_none (whole_if id), number_told id) refl
   told_refused refusal.Absent h = rw (or_none (whole_if id), number_told id) refl
   told_refused refusal.Cycle h = rw (or_none (whole_if id), number_told id) refl
   told_refused refusal.Occupied h = rw (or_none (whole_if id), number_told id) refl
+  told_refused refusal.InUse h = rw (or_none (whole_if id), number_told id) refl
   told_refused refusal.LastContainer h = rw (or_none (whole_if id), number_told id) refl
   told_refused refusal.Builtin h = rw (or_none (whole_if id), number_told id) refl
+  told_refused refusal.EmptyRange h = rw (or_none (whole_if id), number_told id) refl
   told_refused (refusal.UnknownName name) h = let n = h.0 in rw (or_none (whole_if id), number_told id, n) refl
   told_refused (refusal.Denied right target reason) h = told_denied right target reason h
   told_refused (refusal.Full table.Elements) h = rw (or_none (whole_if id), number_told id) refl
   told_refused (refusal.Full table.Assignments) h = rw (or_none (whole_if id), number_told id) refl
   told_refused (refusal.Full table.Associations) h = rw (or_none (whole_if id), number_told id) refl
+  told_refused (refusal.Full table.Prohibitions) h = rw (or_none (whole_if id), number_told id) refl
+  told_refused (refusal.Full table.Sessions) h = rw (or_none (whole_if id), number_told id) refl
+  told_refused (refusal.Full table.Processes) h = rw (or_none (whole_if id), number_told id) refl
+  told_refused (refusal.Full table.Rights) h = rw (or_none (whole_if id), number_told id) refl
   told_refused (refusal.Full table.History) h = rw (or_none (whole_if id), number_told id) refl
+
+  told_done : (what : made.Shown) → Told id v names (Done what)
+  unfolding key_text word_text
+  told_done shows.Nothing = rw (or_none (whole_if id), number_told id) refl
+  told_done (shows.Session n) = rw (or_none (whole_if id), number_told id) refl
+  told_done (shows.Process n) = rw (or_none (whole_if id), number_told id) refl
 
   told : (reply : Reply) → ShowsNames (names_in names reply) → Told id v names reply
   unfolding key_text word_text
-  told Done h = rw (or_none (whole_if id), number_told id) refl
+  told (Done what) h = told_done what
   told Granted h = rw (or_none (whole_if id), number_told id) refl
   told (Bad bad) h = told_bad bad
   told Ahead h = rw (or_none (whole_if id), number_told id) refl
@@ -137,21 +162,24 @@ module _ (id : Option ℕ) (v : ℕ) (names : ℕ → List ℕ) where
   ordered_refused : (why : Refusal) → in_order (members id v names (Refused why)) ≡ true
   unfolding key_text
   ordered_refused refusal.UnknownProcess = refl
+  ordered_refused refusal.UnknownSession = refl
   ordered_refused refusal.BadKinds = refl
   ordered_refused refusal.NameTaken = refl
   ordered_refused refusal.Already = refl
   ordered_refused refusal.Absent = refl
   ordered_refused refusal.Cycle = refl
   ordered_refused refusal.Occupied = refl
+  ordered_refused refusal.InUse = refl
   ordered_refused refusal.LastContainer = refl
   ordered_refused refusal.Builtin = refl
+  ordered_refused refusal.EmptyRange = refl
   ordered_refused (refusal.UnknownName name) = refl
   ordered_refused (refusal.Denied right target reason) = refl
   ordered_refused (refusal.Full t) = refl
 
   ordered : (reply : Reply) → in_order (members id v names reply) ≡ true
   unfolding key_text
-  ordered Done = refl
+  ordered (Done what) = refl
   ordered Granted = refl
   ordered (Bad bad) = ordered_bad bad
   ordered Ahead = refl
@@ -178,28 +206,38 @@ module _ (id : Option ℕ) (v : ℕ) (names : ℕ → List ℕ) (i : IfSome id (
   fair_denied : (right : List ℕ) (target : ℕ) (reason : Reason) → ShowsNames (right ∷ names target ∷ names_in_reason names reason)
       → ValuesFair (members id v names (Refused (refusal.Denied right target reason)))
   fair_denied right target (Class pc) h =
-      (fair-name (names pc) h.1.1.0, (fair-number id i, (fair-said word.Denied, (fair-name right h.0, (fair-name (names target) h.1.0, (fair_version, tt))))))
+      (fair-name (names pc) h.1.1.0, (fair-number id i, (fair-said word.Denied, (tt, (fair-name right h.0, (fair-name (names target) h.1.0, (fair_version, tt)))))))
+  fair_denied right target (Prohibition name) h =
+      (tt, (fair-number id i, (fair-said word.Denied, (fair-name name h.1.1.0, (fair-name right h.0, (fair-name (names target) h.1.0, (fair_version, tt)))))))
 
   fair_refused : (why : Refusal) → ShowsNames (names_in_refusal names why) → ValuesFair (members id v names (Refused why))
   fair_refused refusal.UnknownProcess h = fair_no word.UnknownProcess
+  fair_refused refusal.UnknownSession h = fair_no word.UnknownSession
   fair_refused refusal.BadKinds h = fair_no word.BadKinds
   fair_refused refusal.NameTaken h = fair_no word.NameTaken
   fair_refused refusal.Already h = fair_no word.Already
   fair_refused refusal.Absent h = fair_no word.Absent
   fair_refused refusal.Cycle h = fair_no word.Cycle
   fair_refused refusal.Occupied h = fair_no word.Occupied
+  fair_refused refusal.InUse h = fair_no word.InUse
   fair_refused refusal.LastContainer h = fair_no word.LastContainer
   fair_refused refusal.Builtin h = fair_no word.Builtin
+  fair_refused refusal.EmptyRange h = fair_no word.EmptyRange
   fair_refused (refusal.UnknownName name) h = (fair-number id i, (fair-name name h.0, (fair-said word.UnknownName, (fair_version, tt))))
   fair_refused (refusal.Denied right target reason) h = fair_denied right target reason h
   fair_refused (refusal.Full t) h = (fair-number id i, (fair-said word.Full, (fair-said (table_word t), (fair_version, tt))))
 
-  fair : (reply : Reply) → ShowsNames (names_in names reply) → ValuesFair (members id v names reply)
-  fair Done h = (fair-number id i, (fair-said word.Done, (fair_version, tt)))
-  fair Granted h = (fair-number id i, (fair-said word.Granted, (fair_version, tt)))
-  fair (Bad bad) h = fair_bad bad
-  fair Ahead h = fair_no word.Ahead
-  fair (Refused why) h = fair_refused why h
+  fair_done : (what : made.Shown) → ShowsNumbers (numbers_in_shown what) → ValuesFair (members id v names (Done what))
+  fair_done shows.Nothing m = (fair-number id i, (fair-said word.Done, (tt, (tt, (fair_version, tt)))))
+  fair_done (shows.Session n) m = (fair-number id i, (fair-said word.Done, (tt, (fair-number (Some n) m.0, (fair_version, tt)))))
+  fair_done (shows.Process n) m = (fair-number id i, (fair-said word.Done, (fair-number (Some n) m.0, (tt, (fair_version, tt)))))
+
+  fair : (reply : Reply) → ShowsNumbers (numbers_in reply) → ShowsNames (names_in names reply) → ValuesFair (members id v names reply)
+  fair (Done what) m h = fair_done what m
+  fair Granted m h = (fair-number id i, (fair-said word.Granted, (fair_version, tt)))
+  fair (Bad bad) m h = fair_bad bad
+  fair Ahead m h = fair_no word.Ahead
+  fair (Refused why) m h = fair_refused why h
 
 -- ---- the whole line
 
@@ -214,7 +252,7 @@ module _ (id : Option ℕ) (v : ℕ) (names : ℕ → List ℕ) (reply : Reply) 
   -- the line without its line feed is read as the members
   read-line : read (compact_text (data_of id v names reply)) ≡ Some (data_of id v names reply)
   read-line =
-      let values = fair id v names p.id_fits p.version_fits reply p.named in
+      let values = fair id v names p.id_fits p.version_fits reply p.numbers_fit p.named in
       let shallow = shallow-present (members id v names reply) values in
       read-compact (data_of id v names reply) (MembersFair-present (members id v names reply) (ordered id v names reply) values) (omega (arith, shallow))
 

@@ -3,14 +3,17 @@ use Rattle.std.specs.Prelude.{ℕ, ◌<◌, ◌^◌, List, [], ◌∷◌, Option
 use Rattle.pm_model.specs.Formed.{Each}
 use Rattle.pm_model.specs.Name.{is_name}
 use Rattle.pm_model.specs.declared.replies.Reason.{Reason}
-use Rattle.pm_model.specs.declared.replies.Reason.TheVariants.{Class}
+use Rattle.pm_model.specs.declared.replies.Reason.TheVariants.{Class, Prohibition}
 use Rattle.pm_model.specs.declared.replies.Refusal.{Refusal}
 use Rattle.pm_model.specs.declared.replies.Refusal.TheVariants.{UnknownName, Denied}
 use Rattle.pm_model.specs.declared.replies.Reply.{Reply}
-use Rattle.pm_model.specs.declared.replies.Reply.TheVariants.{Refused}
+use Rattle.pm_model.specs.declared.replies.Reply.TheVariants.{Done, Refused}
+use Rattle.pm_model.specs.declared.replies.Shown as made
+use Rattle.pm_model.specs.declared.replies.Shown.TheVariants as shown
 
 abbrev pub names_in_reason : (ℕ → List ℕ) → Reason → List (List ℕ)
 names_in_reason names (Class pc) = names pc ∷ []
+names_in_reason names (Prohibition name) = name ∷ []
 
 abbrev pub names_in_refusal : (ℕ → List ℕ) → Refusal → List (List ℕ)
 names_in_refusal names (UnknownName name) = name ∷ []
@@ -22,6 +25,20 @@ abbrev pub names_in : (ℕ → List ℕ) → Reply → List (List ℕ)
 names_in names (Refused why) = names_in_refusal names why
 names_in names _ = []
 
+abbrev pub numbers_in_shown : made.Shown → List ℕ
+numbers_in_shown shown.Nothing = []
+numbers_in_shown (shown.Session n) = n ∷ []
+numbers_in_shown (shown.Process n) = n ∷ []
+
+-- the numbers that the reply shows beside the id and the version
+abbrev pub numbers_in : Reply → List ℕ
+numbers_in (Done what) = numbers_in_shown what
+numbers_in _ = []
+
+-- what is shown as a number has 64 bits
+abbrev pub ShowsNumbers : List ℕ → Type 0
+ShowsNumbers ns = Each (λ n. n < 2 ^ 64) ns
+
 -- what is shown as a name is one
 abbrev pub ShowsNames : List (List ℕ) → Type 0
 ShowsNames ns = Each (λ name. IsTrue (is_name name)) ns
@@ -30,4 +47,5 @@ ShowsNames ns = Each (λ name. IsTrue (is_name name)) ns
 pub record IsPrintable (id : Option ℕ) (version : ℕ) (names : ℕ → List ℕ) (reply : Reply) : Type 0 where
   pub id_fits : IfSome id (λ n. n < 2 ^ 64)
   pub version_fits : version < 2 ^ 64
+  pub numbers_fit : ShowsNumbers (numbers_in reply)
   pub named : ShowsNames (names_in names reply)

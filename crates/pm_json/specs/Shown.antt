@@ -1,19 +1,21 @@
 -- What the line of a reply shows, with names in place of the numbers of elements.
 use Rattle.std.specs.Prelude.{ℕ, List}
 use Rattle.pm_model.specs.declared.replies.Reason.{Reason}
-use Rattle.pm_model.specs.declared.replies.Reason.TheVariants.{Class}
+use Rattle.pm_model.specs.declared.replies.Reason.TheVariants.{Class, Prohibition}
 use Rattle.pm_model.specs.declared.replies.Refusal.{Refusal}
 use Rattle.pm_model.specs.declared.replies.Refusal.TheVariants.{Denied}
 use Rattle.pm_model.specs.declared.replies.Reply.{Reply}
 use Rattle.pm_model.specs.declared.replies.Reply.TheVariants.{Refused}
 
--- a reply that tells no element by its number, or a right that is denied on a target for a class
+-- a reply that tells no element by its number, or a right that is denied on a target for a class or a prohibition
 pub data Shown : Type 0 where
   plain : Reply → Shown
   denied : List ℕ → List ℕ → List ℕ → Shown
+  prohibited : List ℕ → List ℕ → List ℕ → Shown
 
 abbrev pub shown_denial : (ℕ → List ℕ) → List ℕ → ℕ → Reason → Shown
 shown_denial names right target (Class pc) = denied right (names target) (names pc)
+shown_denial names right target (Prohibition name) = prohibited right (names target) name
 
 abbrev pub shown_refusal : (ℕ → List ℕ) → Refusal → Shown
 shown_refusal names (Denied right target reason) = shown_denial names right target reason

@@ -1,3 +1,5 @@
+//! Laws of replies: how long a line can be, and that it has one meaning.
+
 ghost use Rattle.std.specs.Prelude.{ℕ, List, Option, length, ◌≡◌, ◌≤◌};
 ghost use Rattle.pm_model.specs.Text.{text};
 ghost use Rattle.pm_model.specs.declared.replies.Reply.{Reply};

@@ -1,10 +1,13 @@
 //! Lines of the protocol: what a line asks, and the line of a reply.
 #![tactic(auto)]
 
+mod errors;
+mod forms;
 mod laws;
 mod print;
 mod put;
 mod read;
+mod rows;
 #[cfg(test)]
 mod tests;
 

@@ -1,14 +1,15 @@
 //! The line of a reply, a function for each row of the table of replies.
 ghost use Rattle.std.specs.Prelude.{◌≡◌, ◌++◌, ◌∷◌, [], ◌≤◌, ◌+◌, length, decimal, codes, take, vec_len, vec_capacity, IsTrue, OnOk, OnErr, IsOk};
 ghost use Rattle.pm_model.specs.Nameable.{IsNameable, IsReasonNameable, IsRefusalNameable};
-ghost use Rattle.pm_model.specs.Text.{text, bad_text, front, bad_front, no_front, ok_front, unknown_front, full_front, denied_front, capability_front, refusal_front, class_of, field_word, table_word};
+ghost use Rattle.pm_model.specs.Text.{text, bad_text, front, bad_front, no_front, ok_front, done_front, made_front, process_shown, session_shown, unknown_front, full_front, denied_front, capability_front, refusal_front, class_of, prohibition_of, field_word, table_word};
 ghost use Rattle.pm_model.specs.Words.{key_text};
 ghost use Rattle.pm_json.specs.Growth.{Appended};
 ghost use Rattle.pm_json.specs.Members.{keyed, trailing, trailing_all};
 
 use crate::put::{put, put_decimal, put_key, put_name, put_number_if, put_word};
 use pm_model::{
-    BadLine, ElementId, Field, Head, Key, Memory, Name, NameOf, Reason, Refusal, Reply, Table, Word,
+    BadLine, ElementId, Field, Head, Key, Memory, Name, NameOf, Reason, Refusal, Reply, Shown,
+    Table, Word,
 };
 
 fn field_word(field: Field) -> Word
@@ -18,15 +19,22 @@ fn field_word(field: Field) -> Word
         Field::Id => Word::Id,
         Field::After => Word::After,
         Field::Proc => Word::Proc,
+        Field::Process => Word::Process,
+        Field::Session => Word::Session,
         Field::Name => Word::Name,
         Field::Into => Word::Into,
         Field::From => Word::From,
         Field::To => Word::To,
         Field::Ua => Word::Ua,
         Field::At => Word::At,
+        Field::User => Word::User,
         Field::Target => Word::Target,
         Field::Right => Word::Right,
         Field::Rights => Word::Rights,
+        Field::Inc => Word::Inc,
+        Field::Exc => Word::Exc,
+        Field::Mode => Word::Mode,
+        Field::Subject => Word::Subject,
     }
 }
 
@@ -37,6 +45,10 @@ fn table_word(table: Table) -> Word
         Table::Elements => Word::Elements,
         Table::Assignments => Word::Assignments,
         Table::Associations => Word::Associations,
+        Table::Prohibitions => Word::Prohibitions,
+        Table::Sessions => Word::Sessions,
+        Table::Processes => Word::Processes,
+        Table::Rights => Word::Rights,
         Table::History => Word::History,
     }
 }
@@ -55,6 +67,40 @@ fn put_ok(out: &mut Vec<u8>, head: &Head, what: Word) -> Result<(), Memory>
 {
     put_number_if(out, Key::Id, head.id)?;
     put_word(out, Key::Ok, what)
+}
+
+fn process_shown(shown: Shown) -> Option<u64>
+    ensures { result ≡ process_shown shown }
+{
+    match shown {
+        Shown::Process(n) => Some(u64::from(n)),
+        Shown::Nothing | Shown::Session(_) => None,
+    }
+}
+
+fn session_shown(shown: Shown) -> Option<u64>
+    ensures { result ≡ session_shown shown }
+{
+    match shown {
+        Shown::Session(n) => Some(u64::from(n)),
+        Shown::Nothing | Shown::Process(_) => None,
+    }
+}
+
+// What a request that is accepted has made.
+fn put_made(out: &mut Vec<u8>, shown: Shown) -> Result<(), Memory>
+    ensures { Appended out.old out.new (trailing_all (made_front shown)) result }
+{
+    put_number_if(out, Key::Process, process_shown(shown))?;
+    put_number_if(out, Key::Session, session_shown(shown))
+}
+
+fn put_done(out: &mut Vec<u8>, head: &Head, shown: Shown) -> Result<(), Memory>
+    ensures { Appended out.old out.new (trailing_all (done_front head.now shown)) result }
+{
+    put_number_if(out, Key::Id, head.id)?;
+    put_word(out, Key::Ok, Word::Done)?;
+    put_made(out, shown)
 }
 
 fn put_bad_field(out: &mut Vec<u8>, head: &Head, field: Field) -> Result<(), Memory>
@@ -93,19 +139,38 @@ fn put_full(out: &mut Vec<u8>, head: &Head, table: Table) -> Result<(), Memory>
 }
 
 // The class of a denial, where it is one.
-fn put_class<N: NameOf>(out: &mut Vec<u8>, names: &N, reason: Reason) -> Result<(), Memory>
-    requires { IsReasonNameable (N.named names.now) reason }
-    ensures { Appended out.old out.new (trailing (key_text Key.Class) (class_of (N.name_at names.now) reason)) result }
+#[tactic(auto, unfolding(crate::specs::Members::trailing))]
+fn put_class<N: NameOf>(out: &mut Vec<u8>, names: &N, reason: &Reason) -> Result<(), Memory>
+    requires { IsReasonNameable (N.named names.now) reason.now }
+    ensures { Appended out.old out.new (trailing (key_text Key.Class) (class_of (N.name_at names.now) reason.now)) result }
 {
     match reason {
-        Reason::Class(class) => put_name(out, Key::Class, &names.name_of(class)),
+        Reason::Class(class) => put_name(out, Key::Class, &names.name_of(*class)),
+        Reason::Prohibition(_) => Ok(()),
     }
 }
 
-// What is denied.
-fn put_capability(out: &mut Vec<u8>, right: &Name, target: &Name) -> Result<(), Memory>
-    ensures { Appended out.old out.new (trailing_all (capability_front right.now target.now)) result }
+// The prohibition of a denial, where it is one.
+#[tactic(auto, unfolding(crate::specs::Members::trailing))]
+fn put_prohibition(out: &mut Vec<u8>, reason: &Reason) -> Result<(), Memory>
+    ensures { Appended out.old out.new (trailing (key_text Key.Prohibition) (prohibition_of reason.now)) result }
 {
+    match reason {
+        Reason::Class(_) => Ok(()),
+        Reason::Prohibition(name) => put_name(out, Key::Prohibition, name),
+    }
+}
+
+// What is denied, behind the prohibition that denies it.
+fn put_capability(
+    out: &mut Vec<u8>,
+    reason: &Reason,
+    right: &Name,
+    target: &Name,
+) -> Result<(), Memory>
+    ensures { Appended out.old out.new (trailing_all (capability_front reason.now right.now target.now)) result }
+{
+    put_prohibition(out, reason)?;
     put_name(out, Key::Right, right)?;
     put_name(out, Key::Target, target)
 }
@@ -116,16 +181,16 @@ fn put_denied<N: NameOf>(
     names: &N,
     right: &Name,
     target: ElementId,
-    reason: Reason,
+    reason: &Reason,
 ) -> Result<(), Memory>
     requires target { IsTrue (N.named names.now target) }
-    requires reason { IsReasonNameable (N.named names.now) reason }
-    ensures { Appended out.old out.new (trailing_all (denied_front head.now (N.name_at names.now) right.now target reason)) result }
+    requires reason { IsReasonNameable (N.named names.now) reason.now }
+    ensures { Appended out.old out.new (trailing_all (denied_front head.now (N.name_at names.now) right.now target reason.now)) result }
 {
     put_class(out, names, reason)?;
     put_number_if(out, Key::Id, head.id)?;
     put_word(out, Key::No, Word::Denied)?;
-    put_capability(out, right, &names.name_of(target))
+    put_capability(out, reason, right, &names.name_of(target))
 }
 
 fn put_refusal<N: NameOf>(
@@ -139,20 +204,23 @@ fn put_refusal<N: NameOf>(
 {
     match why {
         Refusal::UnknownProcess => put_no(out, head, Word::UnknownProcess),
+        Refusal::UnknownSession => put_no(out, head, Word::UnknownSession),
         Refusal::UnknownName { name } => put_unknown_name(out, head, name),
         Refusal::Denied {
             right,
             target,
             reason,
-        } => put_denied(out, head, names, right, *target, *reason),
+        } => put_denied(out, head, names, right, *target, reason),
         Refusal::BadKinds => put_no(out, head, Word::BadKinds),
         Refusal::NameTaken => put_no(out, head, Word::NameTaken),
         Refusal::Already => put_no(out, head, Word::Already),
         Refusal::Absent => put_no(out, head, Word::Absent),
         Refusal::Cycle => put_no(out, head, Word::Cycle),
         Refusal::Occupied => put_no(out, head, Word::Occupied),
+        Refusal::InUse => put_no(out, head, Word::InUse),
         Refusal::LastContainer => put_no(out, head, Word::LastContainer),
         Refusal::Builtin => put_no(out, head, Word::Builtin),
+        Refusal::EmptyRange => put_no(out, head, Word::EmptyRange),
         Refusal::Full(table) => put_full(out, head, *table),
     }
 }
@@ -167,7 +235,7 @@ fn put_front<N: NameOf>(
     ensures { Appended out.old out.new (trailing_all (front head.now (N.name_at names.now) reply.now)) result }
 {
     match reply {
-        Reply::Done => put_ok(out, head, Word::Done),
+        Reply::Done { shown } => put_done(out, head, *shown),
         Reply::Granted => put_ok(out, head, Word::Granted),
         Reply::Bad(bad) => put_bad(out, head, bad),
         Reply::Ahead => put_no(out, head, Word::Ahead),

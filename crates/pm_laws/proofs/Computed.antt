@@ -1,38 +1,38 @@
 -- The examples, computed.
-use Rattle.std.proofs.Common.{◌≡◌, [], ◌∷◌, Ok, Err, true, false, refl, arith}
+use Rattle.std.proofs.Common.{◌≡◌, [], ◌∷◌, Ok, Err, Some, None, true, false, refl, arith}
+use Rattle.pm_model.specs.State.{root}
+use Rattle.pm_model.specs.Sessions.{session}
 use Rattle.pm_model.specs.Containment.{contained}
+use Rattle.pm_model.specs.RightSet.{opening_rights, command_words}
 use Rattle.pm_model.specs.Effect.{effect}
 use Rattle.pm_model.specs.Formed.{Each, IsWellFormed, IsNamed}
-use Rattle.pm_laws.specs.Examples.{staffed, made, refused, unformed}
+use Rattle.pm_laws.specs.Examples.{staffed, held, made, refused, refused_at_work, in_use, wards, ruled, unformed}
+use Rattle.pm_model.specs.Authority.{ruling}
+use Rattle.pm_model.specs.declared.requests.Change.TheVariants.{Delete}
+use Rattle.pm_model.specs.declared.replies.Refusal.TheVariants.{InUse}
 
 pub examples_made : Each (λ row. IsNamed row.0 row.1 × (effect row.0 row.1 ≡ Ok row.2)) made
-unfolding contained
-examples_made = (
-  ((refl, refl), refl),
-  (
-    ((refl, refl), refl),
-    (
-      ((refl, refl), refl),
-      (
-        ((refl, refl), refl),
-        (
-          ((refl, refl), refl),
-          (
-            ((refl, refl), refl),
-            tt,
-          ),
-        ),
-      ),
-    ),
-  ),
-)
+unfolding contained opening_rights command_words
+examples_made = (((refl, refl), refl), (((refl, refl), refl), (((refl, refl), refl), (((refl, refl), refl), (((refl, refl), refl), (((refl, refl), refl), (((refl, refl, omega arith), refl), (((refl, refl), refl), ((refl, refl), ((refl, refl), ((refl, refl), (((refl, omega arith), refl), ((omega arith, refl), (((refl, (refl, tt), tt, omega arith), refl), (((refl, (refl, tt), tt, omega arith), refl), ((tt, refl), ((tt, refl), ((omega arith, refl), ((tt, refl), tt)))))))))))))))))))
 
 pub examples_refused : Each (λ row. effect staffed row.0 ≡ Err row.1) refused
 unfolding contained
-examples_refused = (refl, (refl, (refl, (refl, (refl, (refl, (refl, (refl, (refl, (refl, (refl, tt)))))))))))
+examples_refused = (refl, (refl, (refl, (refl, (refl, (refl, (refl, (refl, (refl, (refl, (refl, (refl, (refl, (refl, (refl, (refl, (refl, tt)))))))))))))))))
+
+pub examples_refused_at_work : Each (λ row. effect held row.0 ≡ Err row.1) refused_at_work
+unfolding opening_rights command_words
+examples_refused_at_work = (refl, (refl, (refl, (refl, (refl, (refl, (refl, (refl, (refl, (refl, (refl, (refl, (refl, tt)))))))))))))
+
+pub examples_in_use : Each (λ G. effect G (Delete 4) ≡ Err InUse) in_use
+unfolding contained opening_rights
+examples_in_use = (refl, (refl, (refl, (refl, (refl, (refl, tt))))))
+
+pub examples_ruled : Each (λ row. ruling wards row.0 row.1 row.2 ≡ row.3) ruled
+unfolding contained opening_rights
+examples_ruled = (refl, (refl, (refl, (refl, (refl, (refl, (refl, (refl, (refl, tt)))))))))
 
 pub examples_unformed : Each (λ G. IsWellFormed G → ⊥) unformed
-unfolding contained
+unfolding contained opening_rights
 examples_unformed = (
   λ f. f.assigned.acyclic 3 4 (3 ∷ []) ((4, omega arith, refl), ((3, omega arith, refl), refl)),
   (
@@ -49,7 +49,34 @@ examples_unformed = (
               λ f. let no : true ≡ false = f.elements.named.1.1.1.0 in cc,
               (
                 λ f. let no : false ≡ true = f.opening.assigned.1.0 in cc,
-                tt,
+                (
+                  λ f. let no = f.associations.named.0 in omega arith,
+                  (
+                    λ f. let no : true ≡ false = f.prohibitions.once.0 in cc,
+                    (
+                      λ f. let no : false ≡ true = f.prohibitions.each.0.subject in cc,
+                      (
+                        λ f. let no : true ≡ false = f.prohibitions.each.0.ranged in cc,
+                        (
+                          λ f. let no : false ≡ true = f.procs.in_sessions.1.0 in cc,
+                          (
+                            λ f. let no : false ≡ true = f.procs.users.1.0 in cc,
+                            (
+                              λ f. let no = f.procs.numbered.sessions.1.1 in omega arith,
+                              (
+                                λ f. let no : None ≡ Some (session 0 root) = f.procs.opening_session in cc,
+                                (
+                                  λ f. let no : true ≡ false = f.rights.once.0 in cc,
+                                  tt,
+                                ),
+                              ),
+                            ),
+                          ),
+                        ),
+                      ),
+                    ),
+                  ),
+                ),
               ),
             ),
           ),

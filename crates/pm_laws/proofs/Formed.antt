@@ -1,23 +1,31 @@
 -- A change keeps well formed: a lemma for each table in the graph, and a clause of `formed-changed` for each change.
-use Rattle.std.proofs.Common.{◌≡◌, ◌<◌, ℕ, List, [], ◌∷◌, ◌++◌, length, Some, None, false, refl, subst, arith, Ok}
+use Rattle.std.proofs.Common.{◌≡◌, ◌≤◌, ◌<◌, ◌||◌, ℕ, List, [], ◌∷◌, ◌++◌, length, Some, None, false, not, refl, subst, arith, Ok, remove}
 use Rattle.std.specs.List.{list_any}
-use Rattle.std.proofs.lemmas.Bool.{leb-false, not-false}
-use Rattle.pm_model.specs.State.{Graph, element, is_named, opening, opening_assigned}
+use Rattle.std.proofs.lemmas.Bool.{leb-false, ltb-false, not-false, or_parts}
+use Rattle.pm_model.specs.State.{Graph, element, is_named, opening, opening_elements, opening_assigned, root}
+use Rattle.pm_model.specs.Sessions.{Procs, is_session_of, opening_procs, processes_of, with_session, without_session, with_process, without_process}
+use Rattle.pm_model.specs.Prohibitions.{without_processes, names_element}
+use Rattle.pm_model.specs.RightSet.{opening_rights}
 use Rattle.pm_model.specs.Containment.{contained}
-use Rattle.pm_model.specs.Effect.{refusal, changed, effect, checks, placed}
+use Rattle.pm_model.specs.Effect.{refusal, changed, effect, checks, placed, joins, has_child, has_end, is_in_use}
 use Rattle.pm_model.specs.Resolve.{unused}
-use Rattle.pm_model.specs.Formed.{Each, IsWellFormed, IsAcyclic, IsNamed, AreElements, AreAssigned, AreAssociations, StandsAssigned}
+use Rattle.pm_model.specs.Formed.{Each, IsWellFormed, IsAcyclic, IsNamed, AreElements, AreAssigned, AreAssociations, AreProhibitions, AreRights, AreProcs, StandsAssigned}
 use Rattle.pm_model.specs.declared.elements.Element.{Element}
 use Rattle.pm_model.specs.declared.rights.Association.{Association}
+use Rattle.pm_model.specs.declared.prohibitions.Prohibition.{Prohibition}
 use Rattle.pm_model.specs.declared.requests.Change.{Change}
-use Rattle.pm_model.specs.declared.requests.Change.TheVariants.{Create, Assign, Deassign, Associate, Dissociate}
+use Rattle.pm_model.specs.declared.requests.Change.TheVariants.{Create, Delete, Assign, Deassign, Associate, Dissociate, OpenSession, CloseSession, StartProcess, EndProcess, Prohibit, Lift, DefineRight}
 use Rattle.pm_laws.proofs.Items.{contains-none}
 use Rattle.pm_laws.proofs.Checks.{passed, unless-ok}
 use Rattle.pm_laws.proofs.Numbers.{length-placed, rising-placed}
 use Rattle.pm_laws.proofs.Names.{names-placed}
 use Rattle.pm_laws.proofs.Shape.{IsWithin, acyclic-pushed}
 use Rattle.pm_laws.proofs.Assigned.{pushed-within, assigned-pushed, assigned-without, assigned-placed, assigned-under}
-use Rattle.pm_laws.proofs.Associations.{associations-joined, associations-kept, associations-placed, associations-none}
+use Rattle.pm_laws.proofs.Associations.{associations-joined, associations-kept, associations-placed, associations-rights, associations-none}
+use Rattle.pm_laws.proofs.RightNames.{rights-more, rights-opening}
+use Rattle.pm_laws.proofs.Procs.{procs-opened, procs-closed, procs-started, procs-ended, procs-placed}
+use Rattle.pm_laws.proofs.Prohibitions.{prohibitions-pushed, prohibitions-removed, prohibitions-none, prohibitions-placed, prohibitions-rights, prohibitions-opened, prohibitions-started, prohibitions-left, process-kept, process-left}
+use Rattle.pm_laws.proofs.Deleted.{elements-left, assigned-left, associations-left, procs-left, prohibitions-unnamed, opening-left}
 use Rattle.pm_laws.proofs.Opening.{opening-placed, opening-within, opening-without}
 
 -- ---- elements
@@ -38,12 +46,61 @@ with-assigned G pairs f h o = record {
   elements = f.elements;
   assigned = h;
   associations = f.associations;
+  prohibitions = f.prohibitions;
+  rights = f.rights;
+  procs = f.procs;
   opening = record { elements = f.opening.elements; assigned = o };
 }
 
-pub with-associations : (G : Graph) (associations : List Association) → IsWellFormed G → AreAssociations G.elements associations →
+pub with-associations : (G : Graph) (associations : List Association) → IsWellFormed G → AreAssociations G.elements G.rights associations →
     IsWellFormed (record G { associations = associations })
-with-associations G associations f h = record { elements = f.elements; assigned = f.assigned; associations = h; opening = f.opening }
+with-associations G associations f h = record {
+  elements = f.elements;
+  assigned = f.assigned;
+  associations = h;
+  prohibitions = f.prohibitions;
+  rights = f.rights;
+  procs = f.procs;
+  opening = f.opening;
+}
+
+pub with-prohibitions : (G : Graph) (ps : List Prohibition) → IsWellFormed G → AreProhibitions G.elements G.procs G.rights ps →
+    IsWellFormed (record G { prohibitions = ps })
+with-prohibitions G ps f h = record {
+  elements = f.elements;
+  assigned = f.assigned;
+  associations = f.associations;
+  prohibitions = h;
+  rights = f.rights;
+  procs = f.procs;
+  opening = f.opening;
+}
+
+-- with other sessions and processes, and the prohibitions that are left
+pub with-procs : (G : Graph) (P : Procs) (ps : List Prohibition) → IsWellFormed G → AreProcs G.elements P →
+    AreProhibitions G.elements P G.rights ps → IsWellFormed (record G { procs = P; prohibitions = ps })
+with-procs G P ps f h k = record {
+  elements = f.elements;
+  assigned = f.assigned;
+  associations = f.associations;
+  prohibitions = k;
+  rights = f.rights;
+  procs = h;
+  opening = f.opening;
+}
+
+-- with a right more
+pub with-right : (G : Graph) (name : List ℕ) → IsWellFormed G → AreRights (G.rights ++ name ∷ []) →
+    IsWellFormed (record G { rights = G.rights ++ name ∷ [] })
+with-right G name f h = record {
+  elements = f.elements;
+  assigned = f.assigned;
+  associations = associations-rights G.elements G.rights name G.associations f.associations;
+  prohibitions = prohibitions-rights G.elements G.procs G.rights name G.prohibitions f.prohibitions;
+  rights = h;
+  procs = f.procs;
+  opening = f.opening;
+}
 
 -- with an element more, and maybe assignments of it
 pub with-element : (G : Graph) (x : Element) (pairs : List (ℕ × ℕ)) → IsWellFormed G → x.number ≡ unused G.elements →
@@ -52,12 +109,34 @@ pub with-element : (G : Graph) (x : Element) (pairs : List (ℕ × ℕ)) → IsW
 with-element G x pairs f u e h more = record {
   elements = e;
   assigned = h;
-  associations = associations-placed G.elements x G.associations f.elements u f.associations;
+  associations = associations-placed G.elements G.rights x G.associations f.elements u f.associations;
+  prohibitions = prohibitions-placed G.elements x G.procs G.rights G.prohibitions f.elements u f.prohibitions;
+  rights = f.rights;
+  procs = procs-placed G.elements x G.procs f.elements u f.procs;
   opening = record {
     elements = opening-placed x G.elements f.elements.rising u f.opening.elements;
     assigned = opening-within G.assigned pairs more f.opening.assigned;
   };
 }
+
+-- without an element that nothing is assigned to and nothing else names
+pub without-element : (G : Graph) (id : ℕ) → IsWellFormed G → 3 ≤ id → has_child G.assigned id ≡ false → is_in_use G id ≡ false →
+    IsWellFormed (changed G (Delete id))
+without-element G id f later empty free = record {
+  elements = elements-left id G.elements f.elements;
+  assigned = assigned-left id G.elements G.assigned empty f.assigned;
+  associations = associations-left id G.elements G.rights G.associations named.0 f.associations;
+  prohibitions = prohibitions-unnamed id G.elements G.procs G.rights G.prohibitions named.1 f.prohibitions;
+  rights = f.rights;
+  procs = procs-left id G.elements G.procs all.1 f.procs;
+  opening = opening-left id G.elements G.assigned later f.opening;
+} where
+  all : ((list_any (has_end id) G.associations || list_any (names_element id) G.prohibitions) ≡ false)
+      × (list_any (is_session_of id) G.procs.sessions ≡ false)
+  all = or_parts _ _ free
+
+  named : (list_any (has_end id) G.associations ≡ false) × (list_any (names_element id) G.prohibitions ≡ false)
+  named = or_parts _ _ all.0
 
 -- ---- changes
 
@@ -73,6 +152,8 @@ formed-changed G (Create id kind name (Some c)) f n r =
     with-element G x _ f n.0 (elements-placed G.elements x f.elements n.0 p.1.0 (leb-false _ _ p.1.1.0))
     (assigned-under G.elements x G.assigned c f.elements n.0 f.assigned (not-false _ p.0) (leb-false _ _ p.1.1.1.0))
     (pushed-within G.assigned id c)
+formed-changed G (Delete id) f n r =
+    let p = passed (checks G (Delete id)) r in without-element G id f (ltb-false id 3 p.0) p.1.0 p.1.1.0
 formed-changed G (Assign x y) f n r =
     let p = passed (checks G (Assign x y)) r in
     with-assigned G _ f (assigned-pushed G.elements G.assigned x y f.assigned (not-false _ p.0) p.1.0 p.1.1.0 (leb-false _ _ p.1.1.1.0))
@@ -83,9 +164,41 @@ formed-changed G (Deassign x y) f n r =
     (opening-without G.assigned x y p.0 f.opening.assigned)
 formed-changed G (Associate u r t) f n e =
     let p = passed (checks G (Associate u r t)) e in
-    with-associations G _ f (associations-joined G.elements G.associations (record { ua = u; rights = r; at = t }) f.associations
+    with-associations G _ f (associations-joined G.elements G.rights G.associations (record { ua = u; rights = r; at = t }) f.associations
     (not-false _ p.0) n.2 p.1.0 (leb-false _ _ p.1.1.0))
-formed-changed G (Dissociate u t) f n e = with-associations G _ f (associations-kept G.elements G.associations _ f.associations)
+formed-changed G (Dissociate u t) f n e =
+    with-associations G _ f (associations-kept G.elements G.rights G.associations (λ a. not (joins u t a)) f.associations)
+formed-changed G (OpenSession u) f n r =
+    let p = passed (checks G (OpenSession u)) r in
+    with-procs G (with_session u G.procs) G.prohibitions f (procs-opened G.elements G.procs u f.procs n.0 (leb-false _ _ p.1.0))
+    (prohibitions-opened G.elements G.procs G.rights u G.prohibitions f.prohibitions)
+formed-changed G (CloseSession n) f _ r =
+    let p = passed (checks G (CloseSession n)) r in
+    with-procs G (without_session n G.procs) (without_processes (processes_of G.procs n) G.prohibitions) f
+    (procs-closed G.elements G.procs n f.procs p.0)
+    (prohibitions-left G.elements G.procs (without_session n G.procs) G.rights (processes_of G.procs n) G.prohibitions
+    (process-left G.procs n) f.prohibitions)
+formed-changed G (StartProcess n) f _ r =
+    let p = passed (checks G (StartProcess n)) r in
+    with-procs G (with_process n G.procs) G.prohibitions f
+    (procs-started G.elements G.procs n f.procs (not-false _ p.0) (leb-false _ _ p.1.0))
+    (prohibitions-started G.elements G.procs G.rights n G.prohibitions f.prohibitions)
+formed-changed G (EndProcess n) f _ r =
+    let p = passed (checks G (EndProcess n)) r in
+    with-procs G (without_process n G.procs) (without_processes (n ∷ []) G.prohibitions) f
+    (procs-ended G.elements G.procs n f.procs p.0)
+    (prohibitions-left G.elements G.procs (without_process n G.procs) G.rights (n ∷ []) G.prohibitions
+    (process-kept G.procs n) f.prohibitions)
+formed-changed G (Prohibit q) f n r =
+    let p = passed (checks G (Prohibit q)) r in
+    with-prohibitions G (G.prohibitions ++ q ∷ []) f
+    (prohibitions-pushed G.elements G.procs G.rights G.prohibitions q f.prohibitions
+    (record { subject = n.0; inc = n.1; exc = n.2; named = n.3; ranged = p.1.1.0 }) p.1.0 (leb-false _ _ p.1.1.1.0))
+formed-changed G (Lift i) f n r =
+    with-prohibitions G (remove G.prohibitions i) f (prohibitions-removed G.elements G.procs G.rights G.prohibitions i f.prohibitions n)
+formed-changed G (DefineRight name) f _ r =
+    let p = passed (checks G (DefineRight name)) r in
+    with-right G name f (rights-more G.rights name f.rights (or_parts _ _ p.0).0 (leb-false _ _ p.1.0))
 
 -- what an effect gives is well formed
 pub formed-effect : (G H : Graph) (c : Change) → IsWellFormed G → IsNamed G c → effect G c ≡ Ok H → IsWellFormed H
@@ -111,6 +224,17 @@ formed-opening = record {
     classes = (refl, (refl, (refl, tt)));
     few = omega arith;
   };
-  associations = associations-none opening.graph.elements;
+  associations = associations-none opening_elements opening_rights;
+  prohibitions = prohibitions-none opening_elements (opening_procs root) opening_rights;
+  rights = rights-opening;
+  procs = record {
+    numbered = record { sessions = (omega arith, omega arith); processes = (omega arith, omega arith) };
+    users = (refl, tt);
+    in_sessions = (refl, tt);
+    opening_session = refl;
+    opening_process = refl;
+    few_sessions = omega arith;
+    few_processes = omega arith;
+  };
   opening = record { elements = (refl, (refl, (refl, tt))); assigned = (refl, (refl, tt)) };
 }

@@ -1,8 +1,8 @@
 -- The items of a list: what each of them keeps, which stand in it, and which one a test finds.
-use Rattle.std.proofs.Common.{◌≡◌, ◌≤◌, zero, suc, List, [], ◌∷◌, ◌++◌, length, Option, Some, Bool, true, false, refl, subst, filter, Contains, ◌⊎◌, inl, inr, arith}
-use Rattle.std.specs.List.{list_any, find}
+use Rattle.std.proofs.Common.{◌≡◌, ◌≤◌, zero, suc, ℕ, List, [], ◌∷◌, ◌++◌, length, map, Option, Some, None, IsSome, Bool, true, false, refl, subst, filter, Contains, ◌⊎◌, inl, inr, arith}
+use Rattle.std.specs.List.{list_any, find, remove, slice_get, All}
 use Rattle.std.proofs.lemmas.Bool.{cond_both, false_from_ne_true, or_cases, or_left, or_right}
-use Rattle.std.proofs.lemmas.List.Elements.{Contains-append_cases, Contains-append_right, Contains-push_cases}
+use Rattle.std.proofs.lemmas.List.Elements.{All-nil, All-cons, Contains-append_cases, Contains-append_right, Contains-push_cases}
 use Rattle.pm_model.specs.Formed.{Each}
 
 -- ---- which items stand in a list
@@ -104,6 +104,59 @@ module _ {X : Type 0} (test : X → Bool) where
         | inr below ↦ find-some xs y below passes
       ])
 
+  -- ---- what is found stays found
+
+  pub find-is : (xs : List X) → IsSome (find test xs) → (y : X) × (find test xs ≡ Some y)
+  find-is xs h = of (find test xs) refl h where
+    of : (o : Option X) → find test xs ≡ o → IsSome o → (y : X) × (find test xs ≡ Some y)
+    of (Some y) is h = (y, is)
+    of None is h = absurd (cc)
+
+  pub find-live : (xs : List X) (y : X) → find test xs ≡ Some y → IsSome (find test xs)
+  find-live xs y h = rw h refl
+
+  pub find-any : (xs : List X) → list_any test xs ≡ true → IsSome (find test xs)
+  find-any xs h = let p = any-found xs h in let q = find-some xs p.0 p.1 p.2 in find-live xs q.0 q.1
+
+  pub find-push : (xs : List X) (x y : X) → find test xs ≡ Some y → find test (xs ++ x ∷ []) ≡ Some y
+  find-push [] x y = λ h. absurd (cc)
+  find-push (a ∷ xs) x y = cond_both (test a) (Some a) (find test xs) (λ found. found ≡ Some y → find test ((a ∷ xs) ++ x ∷ []) ≡ Some y)
+      (λ is h. rw is h)
+      (λ is h. rw is (find-push xs x y h))
+
+  -- where the others go
+  pub find-filter : (keep : X → Bool) (xs : List X) (y : X) → find test xs ≡ Some y → keep y ≡ true → find test (filter keep xs) ≡ Some y
+  find-filter keep [] y = λ h. absurd (cc)
+  find-filter keep (x ∷ xs) y =
+      find-split (λ found. found ≡ Some y → keep y ≡ true → find test (filter keep (x ∷ xs)) ≡ Some y) x xs
+      (λ is h kept. let same : x ≡ y = cc in rw (same, kept, (rw same at is)) refl)
+      (λ is h kept. let rest = find-filter keep xs y h kept in
+      cond_both (keep x) (x ∷ filter keep xs) (filter keep xs) (λ l. find test l ≡ Some y) (λ stays. rw is rest) (λ goes. rest))
+
+pub any-map : {X Y : Type 0} (test : Y → Bool) (f : X → Y) (xs : List X) (x : X) → Contains xs x → test (f x) ≡ true →
+    list_any test (map f xs) ≡ true
+any-map test f [] x c passes = contains-none x c
+any-map test f (y ∷ xs) x c passes = elim (contains-cases y x xs c) [
+  | inl same ↦ or_left (test (f y)) (list_any test (map f xs)) (rw same passes)
+  | inr below ↦ or_right (test (f y)) (list_any test (map f xs)) (any-map test f xs x below passes)
+]
+
+-- what a removal leaves
+pub contains-removed : {X : Type 0} (xs : List X) (i : ℕ) (y : X) → Contains (remove xs i) y → Contains xs y
+contains-removed [] zero y c = c
+contains-removed [] (suc i) y c = c
+contains-removed (x ∷ xs) zero y c = contains-rest x y xs c
+contains-removed (x ∷ xs) (suc i) y c = elim (contains-cases x y (remove xs i) c) [
+  | inl same ↦ rw same (contains-first y xs)
+  | inr below ↦ contains-rest x y xs (contains-removed xs i y below)
+]
+
+-- what stands at a place is in the list
+pub get-contains : {X : Type 0} (xs : List X) (i : ℕ) (x : X) → slice_get xs i ≡ Some x → Contains xs x
+get-contains [] i x h = absurd (cc)
+get-contains (y ∷ xs) zero x h = let same : y ≡ x = cc in rw same (contains-first x xs)
+get-contains (y ∷ xs) (suc i) x h = contains-rest y x xs (get-contains xs i x h)
+
 -- ---- a fact of each item
 
 module _ {X : Type 0} (P : X → Type 0) where
@@ -125,3 +178,16 @@ module _ {X : Type 0} (P : X → Type 0) where
 pub each-to : {X : Type 0} (P Q : X → Type 0) → ((x : X) → P x → Q x) → (xs : List X) → Each P xs → Each Q xs
 each-to P Q f [] h = tt
 each-to P Q f (x ∷ xs) h = (f x h.0, each-to P Q f xs h.1)
+
+pub each-map : {X Y : Type 0} (P : Y → Type 0) (f : X → Y) (xs : List X) → Each (λ x. P (f x)) xs → Each P (map f xs)
+each-map P f [] h = tt
+each-map P f (x ∷ xs) h = (h.0, each-map P f xs h.1)
+
+pub each-append : {X : Type 0} (P : X → Type 0) (xs ys : List X) → Each P xs → Each P ys → Each P (xs ++ ys)
+each-append P [] ys h k = k
+each-append P (x ∷ xs) ys h k = (h.0, each-append P xs ys h.1 k)
+
+-- the same fact by index
+pub each-all : {X : Type 0} (P : X → Type 0) (xs : List X) → Each P xs → All P xs
+each-all P [] h = All-nil P
+each-all P (x ∷ xs) h = All-cons P x xs h.0 (each-all P xs h.1)

@@ -1,5 +1,5 @@
 -- Associations as a list: what stands in it where one comes at its place, and which pairs of ends stand once.
-use Rattle.std.proofs.Common.{◌≡◌, ◌≤◌, ◌+◌, ◌==◌, ℕ, List, [], ◌∷◌, length, Bool, true, false, nat_lt, refl, sym, arith, eq-eqb, filter, Contains, ◌⊎◌, inl, inr}
+use Rattle.std.proofs.Common.{◌≡◌, ◌≤◌, ◌==◌, ℕ, List, [], ◌∷◌, Bool, true, false, nat_lt, refl, sym, arith, eq-eqb, filter, Contains, ◌⊎◌, inl, inr}
 use Rattle.std.specs.List.{list_any}
 use Rattle.std.proofs.lemmas.Bool.{eqb-true, ltb-true, ltb-false, and_parts, false_from_ne_true}
 use Rattle.pm_model.specs.Effect.{joins, joined}
@@ -36,13 +36,6 @@ module _ (a : Association) where
       | inl same ↦ inr (rw same (contains-first c bs))
       | inr below ↦ elim (rest below) [ inl new ↦ inl new | inr old ↦ inr (contains-rest b c bs old) ]
     ]
-
-  pub length-joined : (bs : List Association) → length (joined a bs) ≡ length bs + 1
-  length-joined [] = omega arith
-  length-joined (b ∷ bs) = either (length-joined bs) (nat_lt a.ua b.ua) refl where
-    either : length (joined a bs) ≡ length bs + 1 → (t : Bool) → nat_lt a.ua b.ua ≡ t → length (joined a (b ∷ bs)) ≡ length (b ∷ bs) + 1
-    either rest true is = rw is (omega arith)
-    either rest false is = rw is (omega (arith, rest))
 
   pub each-joined : (P : Association → Type 0) (bs : List Association) → Each P bs → P a → Each P (joined a bs)
   each-joined P bs h p = each-from P (joined a bs) (λ c there. elim (joined-cases bs c there) [ inl new ↦ rw (← new) p | inr old ↦ each-at P bs c h old ])

@@ -1,17 +1,27 @@
+pub mod Acting
 pub mod Assigned
 pub mod Associations
+pub mod Authority
 pub mod Checks
 mod Computed
+pub mod Deleted
 pub mod Ends
 pub mod Formed
+pub mod Given
+pub mod Granted
 pub mod Items
 pub mod Joined
+pub mod Kept
 pub mod Live
 pub mod Nameable
 pub mod Names
 pub mod Numbers
 pub mod Opening
 pub mod Pairs
+pub mod Procs
+pub mod Prohibitions
 pub mod Resolved
+pub mod RightNames
 pub mod Shape
 pub mod Standard
+pub mod Told

@@ -1,13 +1,21 @@
--- What is live in a well formed graph: its classes, both ends of each association, and the root user.
-use Rattle.std.proofs.Common.{ℕ, IsTrue, is_some, filter, Contains}
+-- What is live in a well formed graph: its classes, both ends of each association, what prohibitions name, the users of
+-- processes, and the root user.
+use Rattle.std.proofs.Common.{◌≡◌, ℕ, Bool, Option, Some, None, IsTrue, is_some, option_map, option_and_then, filter, Contains, refl, subst}
 use Rattle.std.specs.List.{All}
 use Rattle.std.proofs.lemmas.List.Elements.{All-contains, All-contains_itself, All-filter, All-map}
 use Rattle.pm_model.specs.State.{Graph, element_at, is_class, classes_in}
+use Rattle.pm_model.specs.Sessions.{Procs, session_at, process_at, user_of_session, user_of}
 use Rattle.pm_model.specs.Effect.{may_associate}
-use Rattle.pm_model.specs.Formed.{Each, IsLive, JoinsAttributes, IsWellFormed}
+use Rattle.pm_model.specs.Formed.{Each, IsLive, IsSubjectLive, IsProhibition, JoinsAttributes, IsWellFormed}
 use Rattle.pm_model.specs.declared.elements.Element.{Element}
 use Rattle.pm_model.specs.declared.rights.Association.{Association}
-use Rattle.pm_laws.proofs.Items.{each-to}
+use Rattle.pm_model.specs.declared.prohibitions.Prohibition.{Prohibition}
+use Rattle.pm_model.specs.declared.prohibitions.Subject.{Subject}
+use Rattle.pm_model.specs.declared.prohibitions.Subject.TheVariants.{User, Ua, Process}
+use Rattle.pm_model.specs.declared.sessions.Session.{Session}
+use Rattle.pm_model.specs.declared.sessions.Process as process
+use Rattle.pm_laws.proofs.Items.{each-to, each-at, each-all}
+use Rattle.pm_laws.proofs.Procs.{session-is}
 use Rattle.pm_laws.proofs.Numbers.{stands-at, live-some}
 use Rattle.pm_laws.proofs.Ends.{both-live}
 
@@ -30,6 +38,49 @@ ends-live G f =
     each-to (JoinsAttributes G.elements) (λ (a : Association). IsLive G.elements a.ua × IsLive G.elements a.at)
     (λ a fits. both-live may_associate (element_at G.elements a.ua) (element_at G.elements a.at) fits) G.associations f.associations.kinds
 
--- the root user is live
-pub root-live : (G : Graph) → IsWellFormed G → IsTrue (is_some (element_at G.elements 2))
-root-live G f = live-some G.elements 2 _ f.opening.elements.1.1.0
+-- the subject is live, where it is an element
+abbrev pub IsSubjectIn : (ℕ → Bool) → Subject ℕ ℕ → Type 0
+IsSubjectIn live (User n) = IsTrue (live n)
+IsSubjectIn live (Ua n) = IsTrue (live n)
+IsSubjectIn live (Process n) = Unit {0}
+
+-- all that the prohibition names is live
+abbrev pub NamesIn : (ℕ → Bool) → Prohibition → Type 0
+NamesIn live p = IsSubjectIn live p.subject × All (λ n. IsTrue (live n)) p.inc × All (λ n. IsTrue (live n)) p.exc
+
+-- all that each prohibition names is live
+pub prohibitions-live : (G : Graph) → IsWellFormed G → Each (NamesIn (λ n. is_some (element_at G.elements n))) G.prohibitions
+prohibitions-live G f =
+    each-to (IsProhibition G.elements G.procs G.rights) (NamesIn live)
+    (λ p is. (of p.subject is.subject, each-all (IsLive G.elements) p.inc is.inc, each-all (IsLive G.elements) p.exc is.exc))
+    G.prohibitions f.prohibitions.each where
+      live : ℕ → Bool
+      live n = is_some (element_at G.elements n)
+
+      of : (s : Subject ℕ ℕ) → IsSubjectLive G.elements G.procs s → IsSubjectIn live s
+      of (User n) h = h
+      of (Ua n) h = h
+      of (Process n) h = tt
+
+-- the user of a process, by the process and its session
+pub user-found : (P : Procs) (n u : ℕ) → user_of P n ≡ Some u →
+    (p : process.Process) × (s : Session) × (process_at P n ≡ Some p) × (session_at P p.session ≡ Some s) × (s.user ≡ u)
+user-found P n u h = of (process_at P n) refl h where
+  with-session : (p : process.Process) → process_at P n ≡ Some p → (o : Option Session) → session_at P p.session ≡ o →
+      option_map (λ (s : Session). s.user) o ≡ Some u →
+      (p : process.Process) × (s : Session) × (process_at P n ≡ Some p) × (session_at P p.session ≡ Some s) × (s.user ≡ u)
+  with-session p at (Some s) is h = (p, s, at, is, cc)
+  with-session p at None is h = absurd (cc)
+
+  of : (o : Option process.Process) → process_at P n ≡ o →
+      option_and_then (λ (p : process.Process). user_of_session P p.session) o ≡ Some u →
+      (p : process.Process) × (s : Session) × (process_at P n ≡ Some p) × (session_at P p.session ≡ Some s) × (s.user ≡ u)
+  of (Some p) is h = with-session p is (session_at P p.session) refl h
+  of None is h = absurd (cc)
+
+-- the user of a process is live
+pub user-live : (G : Graph) (p u : ℕ) → IsWellFormed G → user_of G.procs p ≡ Some u → IsLive G.elements u
+user-live G p u f h =
+    let found = user-found G.procs p u h in
+    let there = (session-is G.procs found.0.session found.1 found.3).0 in
+    subst (IsLive G.elements) found.4 (each-at (λ (s : Session). IsLive G.elements s.user) G.procs.sessions found.1 f.procs.users there)

@@ -10,7 +10,7 @@ use Rattle.pm_model.specs.declared.elements.Element.{Element}
 use Rattle.pm_laws.proofs.Items.{contains-cases, contains-none, none-at, none-from}
 use Rattle.pm_laws.proofs.Numbers.{placed-cases, placed-split}
 
-other-swapped : (a b : List ℕ) → bytes_eq a b ≡ false → bytes_eq b a ≡ false
+pub other-swapped : (a b : List ℕ) → bytes_eq a b ≡ false → bytes_eq b a ≡ false
 other-swapped a b h = false_from_ne_true (bytes_eq b a) (λ is.
     let same : b ≡ a = (bytes_eq-Decides b a).0 is in
     let yes = (bytes_eq-Decides a b).1 (sym same) in cc)

@@ -46,15 +46,6 @@ unused_from-least n [] = omega arith
 unused_from-least n (e ∷ es) = let rest = unused_from-least (n + 1) es in
     cond_both (e.number == n) (unused_from (n + 1) es) n (λ u. n ≤ u) (λ is. omega (arith, rest)) (λ is. omega arith)
 
-unused_from-few : (n : ℕ) (es : List Element) → unused_from n es ≤ n + length es
-unused_from-few n [] = omega arith
-unused_from-few n (e ∷ es) = let rest = unused_from-few (n + 1) es in
-    cond_both (e.number == n) (unused_from (n + 1) es) n (λ u. u ≤ n + length (e ∷ es)) (λ is. omega (arith, rest)) (λ is. omega arith)
-
--- the next number is at most the number of elements
-pub unused-few : (es : List Element) → unused es ≤ length es
-unused-few es = let few = unused_from-few 0 es in omega (arith, few)
-
 -- no element of the list has it
 unused_from-apart : (n : ℕ) (es : List Element) (e : Element) → AreRising n es → Contains es e → e.number ≡ unused_from n es → ⊥
 unused_from-apart n [] e h c = λ u. contains-none e c

@@ -1,32 +1,37 @@
 -- What a name resolves to is live, one clause of `resolve-named` for each command; so each command keeps well formed.
-use Rattle.std.proofs.Common.{◌≡◌, ◌↔◌, ◌<◌, ◌+◌, ◌^◌, arith, Bool, ℕ, List, [], ◌∷◌, length, Option, Some, None, option_map, Result, Ok, Err, true, refl, sym, ◌∙◌, ap, subst, Contains, eq-eqb, bytes_eq}
-use Rattle.std.specs.List.{find, position_from}
+use Rattle.std.proofs.Common.{◌≡◌, ◌↔◌, ◌<◌, ◌+◌, ◌^◌, arith, Bool, ℕ, List, [], ◌∷◌, length, Option, Some, None, IsSome, option_map, Result, Ok, Err, true, refl, sym, ◌∙◌, ap, subst, Contains, eq-eqb, bytes_eq}
+use Rattle.std.specs.List.{list_any, find, position_from}
 use Rattle.std.proofs.lemmas.Bool.{cond_both}
 use Rattle.std.proofs.lemmas.Nat.{or_lt, pow_pos}
 use Rattle.std.proofs.Math.Pow.{pow-lt}
 use Rattle.std.proofs.lemmas.Slice.Eq.{bytes_eq-Decides}
 use Rattle.pm_model.specs.Results.{and_then}
 use Rattle.pm_model.specs.State.{Graph, is_named, is_numbered, element_at, number_named}
-use Rattle.pm_model.specs.Resolve.{unused, known, look_up, look_up_both, look_up_rights, resolve}
-use Rattle.pm_model.specs.RightSet.{opening_rights, right_named, with_right}
+use Rattle.pm_model.specs.Resolve.{unused, known, look_up, look_up_both, look_up_all, look_up_rights, look_up_process, look_up_subject, prohibition, resolve}
+use Rattle.pm_model.specs.RightSet.{bit_named, with_right}
+use Rattle.pm_model.specs.Sessions.{is_process, process_at}
+use Rattle.pm_model.specs.Prohibitions.{is_called, place_called}
 use Rattle.pm_model.specs.Effect.{effect}
-use Rattle.pm_model.specs.Answer.{administered}
-use Rattle.pm_model.specs.Formed.{IsWellFormed, IsNamed, IsLive}
+use Rattle.pm_model.specs.Formed.{Each, IsWellFormed, IsNamed, IsLive, AreNamed, IsSubjectLive}
 use Rattle.pm_model.specs.declared.elements.Kind.TheVariants.{Pc}
 use Rattle.pm_model.specs.declared.elements.Element.{Element}
 use Rattle.pm_model.specs.declared.requests.Command.{Command}
 use Rattle.pm_model.specs.declared.requests.Command.TheVariants as command
 use Rattle.pm_model.specs.declared.requests.Change.{Change}
-use Rattle.pm_model.specs.declared.requests.Change.TheVariants.{Create, Assign, Deassign, Associate, Dissociate}
+use Rattle.pm_model.specs.declared.requests.Change.TheVariants.{Create, Delete, Assign, Deassign, Associate, Dissociate, Prohibit, Lift, DefineRight}
+use Rattle.pm_model.specs.declared.prohibitions.Subject.{Subject}
+use Rattle.pm_model.specs.declared.prohibitions.Subject.TheVariants as subject
+use Rattle.pm_model.specs.declared.replies.Refusal.{Refusal}
+use Rattle.pm_model.specs.declared.replies.Refusal.TheVariants.{UnknownProcess}
 use Rattle.pm_laws.specs.Meaning.{IsNumberOf}
-use Rattle.pm_laws.proofs.Items.{find-found, find-some}
+use Rattle.pm_laws.proofs.Items.{find-found, find-some, find-any}
 use Rattle.pm_laws.proofs.Numbers.{found-at, stands-at, live-some}
 use Rattle.pm_laws.proofs.Formed.{formed-effect}
 use Rattle.pm_laws.proofs.Names.{one-name}
 
 -- ---- results in order
 
-and_then-ok : {A B E : Type 0} (r : Result A E) (f : A → Result B E) (b : B) → and_then r f ≡ Ok b →
+pub and_then-ok : {A B E : Type 0} (r : Result A E) (f : A → Result B E) (b : B) → and_then r f ≡ Ok b →
     (a : A) × (r ≡ Ok a) × (f a ≡ Ok b)
 and_then-ok (Ok a) f b h = (a, refl, h)
 and_then-ok (Err e) f b h = absurd (cc)
@@ -51,11 +56,13 @@ named-live es name n h =
     let numbered : is_numbered n p.0 ≡ true = eq-eqb p.0.number n p.2 in
     let q = find-some (is_numbered n) es p.0 there numbered in live-some es n q.0 q.1
 
+-- a look-up that is Ok found what it gives
+known-ok : (name : List ℕ) (o : Option ℕ) (n : ℕ) → known name o ≡ Ok n → o ≡ Some n
+known-ok name (Some m) n h = ap Some (ok-is (known name (Some m)) m n refl h)
+known-ok name None n h = absurd (cc)
+
 pub looked_up-live : (G : Graph) (name : List ℕ) (n : ℕ) → look_up G name ≡ Ok n → IsLive G.elements n
-looked_up-live G name n h = of (number_named G.elements name) refl h where
-  of : (o : Option ℕ) → number_named G.elements name ≡ o → known name o ≡ Ok n → IsLive G.elements n
-  of (Some m) is h = named-live G.elements name n (is ∙ ap Some (ok-is (known name (Some m)) m n refl h))
-  of None is h = absurd (cc)
+looked_up-live G name n h = named-live G.elements name n (known-ok name (number_named G.elements name) n h)
 
 both_looked_up-live : (G : Graph) (first second : List ℕ) (p : ℕ × ℕ) → look_up_both G first second ≡ Ok p →
     IsLive G.elements p.0 × IsLive G.elements p.1
@@ -65,7 +72,15 @@ both_looked_up-live G first second p h =
     let both : IsLive G.elements x.0 × IsLive G.elements y.0 = (looked_up-live G first x.0 x.1, looked_up-live G second y.0 y.1) in
     subst (λ (q : ℕ × ℕ). IsLive G.elements q.0 × IsLive G.elements q.1) (ok-is _ (x.0, y.0) p refl y.2) both
 
--- ---- names of rights
+-- each name of a list
+all_looked_up-live : (G : Graph) (names : List (List ℕ)) (xs : List ℕ) → look_up_all G names ≡ Ok xs → Each (IsLive G.elements) xs
+all_looked_up-live G [] xs h = subst (Each (IsLive G.elements)) (ok-is (look_up_all G []) [] xs refl h) tt
+all_looked_up-live G (n ∷ ns) xs h =
+    let y = and_then-ok (look_up G n) (λ y. and_then (look_up_all G ns) (λ ys. Ok (y ∷ ys))) xs h in
+    let ys = and_then-ok (look_up_all G ns) (λ ys. Ok (y.0 ∷ ys)) xs y.2 in
+    subst (Each (IsLive G.elements)) (ok-is _ (y.0 ∷ ys.0) xs refl ys.2) (looked_up-live G n y.0 y.1, all_looked_up-live G ns ys.0 ys.1)
+
+-- ---- names of rights, and of prohibitions
 
 position_from-below : {X : Type 0} (p : X → Bool) (i : ℕ) (xs : List X) (b : ℕ) → position_from p i xs ≡ Some b → b < i + length xs
 position_from-below p i [] b = λ h. absurd (cc)
@@ -73,49 +88,85 @@ position_from-below p i (x ∷ xs) b = cond_both (p x) (Some i) (position_from p
     (λ is h. let same : i ≡ b = cc in omega (arith, same))
     (λ is h. let later = position_from-below p (i + 1) xs b h in omega (arith, later))
 
-below : (name : List ℕ) (b : ℕ) → right_named name ≡ Some b → b < length opening_rights
-below name b is = let m : b < 0 + length opening_rights = position_from-below (bytes_eq name) 0 opening_rights b is in omega (arith, m)
+-- what is found at a place is within the list
+known-below : {X : Type 0} (p : X → Bool) (xs : List X) (name : List ℕ) (i : ℕ) → known name (position_from p 0 xs) ≡ Ok i → i < length xs
+known-below p xs name i h =
+    let below : i < 0 + length xs = position_from-below p 0 xs i (known-ok name (position_from p 0 xs) i h) in omega (arith, below)
 
--- the bit of a name is below the number of names
-named-below : (name : List ℕ) (bit : ℕ) → known name (right_named name) ≡ Ok bit → bit < length opening_rights
-named-below name bit h = either (right_named name) refl h where
-  either : (o : Option ℕ) → right_named name ≡ o → known name o ≡ Ok bit → bit < length opening_rights
-  either (Some b) is h =
-      subst (λ n. n < length opening_rights) (ok-is (known name (Some b)) b bit refl h) (below name b is)
-  either None is h = absurd (cc)
+looked_up-rights : (G : Graph) (names : List (List ℕ)) (r : ℕ) → look_up_rights G names ≡ Ok r → AreNamed G.rights r
+looked_up-rights G [] r h = rw (ok-is (look_up_rights G []) r 0 h refl) (pow_pos (length G.rights))
+looked_up-rights G (n ∷ ns) r h =
+    let bit = and_then-ok (known n (bit_named G.rights n)) (λ bit. and_then (look_up_rights G ns) (λ rights. Ok (with_right bit rights))) r h in
+    let rest = and_then-ok (look_up_rights G ns) (λ rights. Ok (with_right bit.0 rights)) r bit.2 in
+    let below = known-below (bytes_eq n) G.rights n bit.0 bit.1 in
+    let both = or_lt (length G.rights) (2 ^ bit.0) rest.0 (pow-lt below) (looked_up-rights G ns rest.0 rest.1) in
+    subst (AreNamed G.rights) (ok-is _ (with_right bit.0 rest.0) r refl rest.2) both
 
-looked_up-rights : (names : List (List ℕ)) (r : ℕ) → look_up_rights names ≡ Ok r → r < 2 ^ length opening_rights
-looked_up-rights [] r h = rw (ok-is (look_up_rights []) r 0 h refl) (pow_pos (length opening_rights))
-looked_up-rights (n ∷ ns) r h =
-    let bit = and_then-ok (known n (right_named n)) (λ bit. and_then (look_up_rights ns) (λ rights. Ok (with_right bit rights))) r h in
-    let rest = and_then-ok (look_up_rights ns) (λ rights. Ok (with_right bit.0 rights)) r bit.2 in
-    let both = or_lt (length opening_rights) (2 ^ bit.0) rest.0 (pow-lt (named-below n bit.0 bit.1)) (looked_up-rights ns rest.0 rest.1) in
-    subst (λ k. k < 2 ^ length opening_rights) (ok-is _ (with_right bit.0 rest.0) r refl rest.2) both
+-- ---- subjects
+
+looked_up-process : (G : Graph) (n m : ℕ) → look_up_process G n ≡ Ok m → IsSome (process_at G.procs m)
+looked_up-process G n m =
+    cond_both (list_any (is_process n) G.procs.processes) (Ok n) (Err UnknownProcess)
+    (λ (r : Result ℕ Refusal). r ≡ Ok m → IsSome (process_at G.procs m))
+    (λ there h. subst (λ k. IsSome (process_at G.procs k)) (ok-is (Ok n) n m refl h) (find-any (is_process n) G.procs.processes there))
+    (λ absent h. absurd (cc))
+
+looked_up-subject : (G : Graph) (s : Subject (List ℕ) ℕ) (t : Subject ℕ ℕ) → look_up_subject G s ≡ Ok t →
+    IsSubjectLive G.elements G.procs t
+looked_up-subject G (subject.User name) t h =
+    let n = and_then-ok (look_up G name) (λ n. Ok (subject.User n)) t h in
+    subst (IsSubjectLive G.elements G.procs) (ok-is _ (subject.User n.0) t refl n.2) (looked_up-live G name n.0 n.1)
+looked_up-subject G (subject.Ua name) t h =
+    let n = and_then-ok (look_up G name) (λ n. Ok (subject.Ua n)) t h in
+    subst (IsSubjectLive G.elements G.procs) (ok-is _ (subject.Ua n.0) t refl n.2) (looked_up-live G name n.0 n.1)
+looked_up-subject G (subject.Process p) t h =
+    let n = and_then-ok (look_up_process G p) (λ n. Ok (subject.Process n)) t h in
+    subst (IsSubjectLive G.elements G.procs) (ok-is _ (subject.Process n.0) t refl n.2) (looked_up-process G p n.0 n.1)
+
+-- ---- commands
+
+pub named-as : (G : Graph) (c d : Change) → ◌≡◌ {A = Result Change Refusal} (Ok c) (Ok d) → IsNamed G c → IsNamed G d
+named-as G c d h n = subst (IsNamed G) (ok-is (Ok c) c d refl h) n
 
 pub resolve-named : (G : Graph) (c : Command) (d : Change) → resolve G c ≡ Ok d → IsNamed G d
-resolve-named G (command.CreatePc name) d h =
-    subst (IsNamed G) (ok-is (resolve G (command.CreatePc name)) (Create (unused G.elements) Pc name None) d refl h) (refl, refl)
+resolve-named G (command.CreatePc name) d h = named-as G (Create (unused G.elements) Pc name None) d h (refl, refl)
 resolve-named G (command.Create kind name into) d h =
     let p = and_then-ok (look_up G into) (λ c. Ok (Create (unused G.elements) kind name (Some c))) d h in
-    subst (IsNamed G) (ok-is _ (Create (unused G.elements) kind name (Some p.0)) d refl p.2) (refl, looked_up-live G into p.0 p.1)
+    named-as G (Create (unused G.elements) kind name (Some p.0)) d p.2 (refl, looked_up-live G into p.0 p.1)
+resolve-named G (command.Delete name) d h =
+    let n = and_then-ok (look_up G name) (λ n. Ok (Delete n)) d h in
+    named-as G (Delete n.0) d n.2 (looked_up-live G name n.0 n.1)
 resolve-named G (command.Assign from to) d h =
     let p = and_then-ok (look_up_both G from to) (λ p. Ok (Assign p.0 p.1)) d h in
-    subst (IsNamed G) (ok-is _ (Assign p.0.0 p.0.1) d refl p.2) (both_looked_up-live G from to p.0 p.1)
+    named-as G (Assign p.0.0 p.0.1) d p.2 (both_looked_up-live G from to p.0 p.1)
 resolve-named G (command.Deassign from to) d h =
     let p = and_then-ok (look_up_both G from to) (λ p. Ok (Deassign p.0 p.1)) d h in
-    subst (IsNamed G) (ok-is _ (Deassign p.0.0 p.0.1) d refl p.2) (both_looked_up-live G from to p.0 p.1)
+    named-as G (Deassign p.0.0 p.0.1) d p.2 (both_looked_up-live G from to p.0 p.1)
 resolve-named G (command.Associate ua rights at) d h =
-    let u = and_then-ok (look_up G ua) (λ u. and_then (look_up_rights rights) (λ r. and_then (look_up G at) (λ t. Ok (Associate u r t)))) d h in
-    let r = and_then-ok (look_up_rights rights) (λ r. and_then (look_up G at) (λ t. Ok (Associate u.0 r t))) d u.2 in
+    let u = and_then-ok (look_up G ua) (λ u. and_then (look_up_rights G rights) (λ r. and_then (look_up G at) (λ t. Ok (Associate u r t)))) d h in
+    let r = and_then-ok (look_up_rights G rights) (λ r. and_then (look_up G at) (λ t. Ok (Associate u.0 r t))) d u.2 in
     let t = and_then-ok (look_up G at) (λ t. Ok (Associate u.0 r.0 t)) d r.2 in
-    subst (IsNamed G) (ok-is _ (Associate u.0 r.0 t.0) d refl t.2)
-    (looked_up-live G ua u.0 u.1, looked_up-live G at t.0 t.1, looked_up-rights rights r.0 r.1)
+    named-as G (Associate u.0 r.0 t.0) d t.2
+    (looked_up-live G ua u.0 u.1, looked_up-live G at t.0 t.1, looked_up-rights G rights r.0 r.1)
 resolve-named G (command.Dissociate ua at) d h =
     let p = and_then-ok (look_up_both G ua at) (λ p. Ok (Dissociate p.0 p.1)) d h in
-    subst (IsNamed G) (ok-is _ (Dissociate p.0.0 p.0.1) d refl p.2) (both_looked_up-live G ua at p.0 p.1)
+    named-as G (Dissociate p.0.0 p.0.1) d p.2 (both_looked_up-live G ua at p.0 p.1)
+resolve-named G (command.Prohibit name s rights inc exc mode) d h =
+    let t = and_then-ok (look_up_subject G s) (λ t. and_then (look_up_rights G rights) (λ r. and_then (look_up_all G inc) (λ i.
+    and_then (look_up_all G exc) (λ e. Ok (Prohibit (prohibition name t r i e mode)))))) d h in
+    let r = and_then-ok (look_up_rights G rights) (λ r. and_then (look_up_all G inc) (λ i. and_then (look_up_all G exc) (λ e.
+    Ok (Prohibit (prohibition name t.0 r i e mode))))) d t.2 in
+    let i = and_then-ok (look_up_all G inc) (λ i. and_then (look_up_all G exc) (λ e. Ok (Prohibit (prohibition name t.0 r.0 i e mode)))) d r.2 in
+    let e = and_then-ok (look_up_all G exc) (λ e. Ok (Prohibit (prohibition name t.0 r.0 i.0 e mode))) d i.2 in
+    named-as G (Prohibit (prohibition name t.0 r.0 i.0 e.0 mode)) d e.2
+    (looked_up-subject G s t.0 t.1, all_looked_up-live G inc i.0 i.1, all_looked_up-live G exc e.0 e.1, looked_up-rights G rights r.0 r.1)
+resolve-named G (command.Lift name) d h =
+    let i = and_then-ok (known name (place_called G.prohibitions name)) (λ i. Ok (Lift i)) d h in
+    named-as G (Lift i.0) d i.2 (known-below (is_called name) G.prohibitions name i.0 i.1)
+resolve-named G (command.DefineRight name) d h = named-as G (DefineRight name) d h tt
 
 -- what a command makes of a well formed graph is well formed
-pub formed-administered : (G H : Graph) (c : Command) → IsWellFormed G → administered G c ≡ Ok H → IsWellFormed H
+pub formed-administered : (G H : Graph) (c : Command) → IsWellFormed G → and_then (resolve G c) (effect G) ≡ Ok H → IsWellFormed H
 formed-administered G H c f h =
     let p = and_then-ok (resolve G c) (effect G) H h in formed-effect G H p.0 f (resolve-named G c p.0 p.1) p.2
 

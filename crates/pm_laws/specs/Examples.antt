@@ -1,16 +1,28 @@
 -- Small graphs by hand: what changes make of them and refuse, and graphs that aren't well formed.
-use Rattle.std.specs.Prelude.{ℕ, List, [], ◌∷◌, ◌++◌, codes, None, Some}
-use Rattle.pm_model.specs.State.{Graph, element, opening, opening_elements, opening_assigned}
-use Rattle.pm_model.specs.declared.elements.Kind.TheVariants.{Ua, Object, Pc}
+use Rattle.std.specs.Prelude.{ℕ, ◌^◌, List, [], ◌∷◌, ◌++◌, codes, Option, None, Some, Result, Ok, Err}
+use Rattle.pm_model.specs.State.{Graph, element, opening, opening_graph, opening_elements, opening_assigned}
+use Rattle.pm_model.specs.RightSet.{opening_rights}
+use Rattle.pm_model.specs.Sessions.{Procs, session, process}
+use Rattle.pm_model.specs.Resolve.{prohibition}
+use Rattle.pm_model.specs.declared.elements.Kind.TheVariants.{User, Ua, Object, Pc}
 use Rattle.pm_model.specs.declared.elements.Element.{Element}
+use Rattle.pm_model.specs.declared.requests.Command.{Command}
+use Rattle.pm_model.specs.declared.requests.Command.TheVariants as command
 use Rattle.pm_model.specs.declared.requests.Change.{Change}
-use Rattle.pm_model.specs.declared.requests.Change.TheVariants.{Create, Assign, Deassign}
+use Rattle.pm_model.specs.declared.requests.Change.TheVariants.{Create, Delete, Assign, Deassign, Associate, Dissociate, OpenSession, CloseSession, StartProcess, EndProcess, Prohibit, Lift, DefineRight}
+use Rattle.pm_model.specs.declared.rights.Association.{Association}
+use Rattle.pm_model.specs.declared.prohibitions.Prohibition.{Prohibition}
+use Rattle.pm_model.specs.declared.prohibitions.Mode.TheVariants.{All}
+use Rattle.pm_model.specs.declared.prohibitions.Subject.TheVariants as subject
+use Rattle.pm_model.specs.declared.sessions.Session.{Session}
+use Rattle.pm_model.specs.declared.sessions.Process.{Process}
 use Rattle.pm_model.specs.declared.replies.Refusal.{Refusal}
-use Rattle.pm_model.specs.declared.replies.Refusal.TheVariants.{BadKinds, NameTaken, Already, Absent, Cycle, LastContainer, Builtin}
+use Rattle.pm_model.specs.declared.replies.Refusal.TheVariants.{UnknownProcess, UnknownSession, UnknownName, Denied, BadKinds, NameTaken, Already, Absent, Cycle, Occupied, LastContainer, Builtin, EmptyRange}
+use Rattle.pm_model.specs.declared.replies.Reason.TheVariants as reason
 
 -- the opening graph, and more
 abbrev pub opening_with : List Element → List (ℕ × ℕ) → Graph
-opening_with es pairs = record { elements = opening_elements ++ es; assigned = opening_assigned ++ pairs; associations = [] }
+opening_with es pairs = record opening_graph { elements = opening_elements ++ es; assigned = opening_assigned ++ pairs }
 
 abbrev pub doctors : Element
 doctors = element 3 Ua (codes "doctors")
@@ -26,6 +38,39 @@ staffed = opening_with (doctors ∷ surgeons ∷ []) ((3, 0) ∷ (4, 3) ∷ [])
 abbrev pub held_twice : Graph
 held_twice = opening_with (doctors ∷ surgeons ∷ []) ((3, 0) ∷ (4, 3) ∷ (4, 0) ∷ [])
 
+-- doctors have these rights on what is in surgeons
+abbrev pub joint : ℕ → Association
+joint rights = record { ua = 3; rights = rights; at = 4 }
+
+abbrev pub associated : Graph
+associated = record staffed { associations = joint 1 ∷ [] }
+
+abbrev pub procs : List Session → List Process → ℕ → ℕ → Procs
+procs sessions processes next_session next_process =
+    record { sessions = sessions; processes = processes; next_session = next_session; next_process = next_process }
+
+-- the opening graph with other sessions and processes, and with these prohibitions
+abbrev pub working : Procs → List Prohibition → Graph
+working P ps = record opening_graph { procs = P; prohibitions = ps }
+
+-- root has opened a session
+abbrev pub opened : Graph
+opened = working (procs (session 0 2 ∷ session 1 2 ∷ []) (process 0 0 ∷ []) 2 1) []
+
+-- and has started a process in it
+abbrev pub started : Procs
+started = procs (session 0 2 ∷ session 1 2 ∷ []) (process 0 0 ∷ process 1 1 ∷ []) 2 2
+
+-- the process, and root, are denied `read` on what is in the administrators
+abbrev pub hold : Prohibition
+hold = prohibition (codes "hold") (subject.Process 1) 1 (1 ∷ []) [] All
+
+abbrev pub lock : Prohibition
+lock = prohibition (codes "lock") (subject.User 2) 1 (1 ∷ []) [] All
+
+abbrev pub held : Graph
+held = working started (hold ∷ lock ∷ [])
+
 -- a graph, a change of it, and what the change makes
 abbrev pub made : List (Graph × Change × Graph)
 made =
@@ -39,7 +84,22 @@ made =
     )
     ∷ (opening.graph, Create 3 Pc (codes "wards") None, opening_with (element 3 Pc (codes "wards") ∷ []) [])
     ∷ (staffed, Assign 4 0, held_twice)
-    ∷ (held_twice, Deassign 4 3, opening_with (doctors ∷ surgeons ∷ []) ((3, 0) ∷ (4, 0) ∷ [])) ∷ []
+    ∷ (held_twice, Deassign 4 3, opening_with (doctors ∷ surgeons ∷ []) ((3, 0) ∷ (4, 0) ∷ []))
+    ∷ (staffed, Associate 3 1 4, associated)
+    ∷ (associated, Dissociate 3 4, staffed)
+    -- an element goes with its assignments, and its number comes back
+    ∷ (staffed, Delete 4, opening_with (doctors ∷ []) ((3, 0) ∷ []))
+    ∷ (held_twice, Delete 4, opening_with (doctors ∷ []) ((3, 0) ∷ []))
+    ∷ (opening_with (element 3 Pc (codes "wards") ∷ []) [], Delete 3, opening.graph)
+    ∷ (opening.graph, OpenSession 2, opened)
+    ∷ (opened, StartProcess 1, working started [])
+    ∷ (working started [], Prohibit hold, working started (hold ∷ []))
+    ∷ (working started (hold ∷ []), Prohibit lock, held)
+    -- what is closed or ended takes the prohibition on its process along, and no number comes back
+    ∷ (held, CloseSession 1, working (procs (session 0 2 ∷ []) (process 0 0 ∷ []) 2 2) (lock ∷ []))
+    ∷ (held, EndProcess 1, working (procs (session 0 2 ∷ session 1 2 ∷ []) (process 0 0 ∷ []) 2 2) (lock ∷ []))
+    ∷ (held, Lift 0, working started (lock ∷ []))
+    ∷ (opening.graph, DefineRight (codes "sign"), record opening_graph { rights = opening_rights ++ codes "sign" ∷ [] }) ∷ []
 
 -- a change of `staffed`, and why it is refused
 abbrev pub refused : List (Change × Refusal)
@@ -52,9 +112,76 @@ refused =
     ∷ (Deassign 4 0, Absent)
     ∷ (Deassign 4 3, LastContainer)
     ∷ (Deassign 2 1, Builtin)
+    ∷ (Delete 0, Builtin)
+    ∷ (Delete 2, Builtin)
+    ∷ (Delete 3, Occupied)
     ∷ (Create 5 Ua (codes "root") (Some 3), NameTaken)
     ∷ (Create 5 Pc (codes "wards") (Some 0), BadKinds)
-    ∷ (Create 5 Object (codes "chart") (Some 3), BadKinds) ∷ []
+    ∷ (Create 5 Object (codes "chart") (Some 3), BadKinds)
+    ∷ (Associate 2 1 3, BadKinds)
+    ∷ (Associate 3 1 0, BadKinds)
+    ∷ (Dissociate 3 4, Absent) ∷ []
+
+-- a change of `held`, and why it is refused
+abbrev pub refused_at_work : List (Change × Refusal)
+refused_at_work =
+    (OpenSession 1, BadKinds)
+    ∷ (CloseSession 0, Builtin)
+    ∷ (CloseSession 2, UnknownSession)
+    ∷ (StartProcess 2, UnknownSession)
+    ∷ (EndProcess 0, Builtin)
+    ∷ (EndProcess 2, UnknownProcess)
+    -- a user attribute as a user, a user or a class in a set, a name that stands, and no range
+    ∷ (Prohibit (prohibition (codes "bar") (subject.User 1) 1 (1 ∷ []) [] All), BadKinds)
+    ∷ (Prohibit (prohibition (codes "bar") (subject.User 2) 1 (2 ∷ []) [] All), BadKinds)
+    ∷ (Prohibit (prohibition (codes "bar") (subject.User 2) 1 [] (0 ∷ []) All), BadKinds)
+    ∷ (Prohibit (prohibition (codes "lock") (subject.Process 1) 1 (1 ∷ []) [] All), NameTaken)
+    ∷ (Prohibit (prohibition (codes "bar") (subject.Process 1) 1 [] [] All), EmptyRange)
+    -- the name of a right, and the word of a command
+    ∷ (DefineRight (codes "read"), NameTaken)
+    ∷ (DefineRight (codes "lift"), NameTaken) ∷ []
+
+-- element 4 is at an end of an association, named by a prohibition, or the user of a session
+abbrev pub in_use : List Graph
+in_use =
+    associated
+    ∷ record staffed { associations = record { ua = 4; rights = 1; at = 3 } ∷ [] }
+    ∷ record staffed { prohibitions = prohibition (codes "bar") (subject.Ua 4) 1 (3 ∷ []) [] All ∷ [] }
+    ∷ record staffed { prohibitions = prohibition (codes "bar") (subject.User 2) 1 (3 ∷ 4 ∷ []) [] All ∷ [] }
+    ∷ record staffed { prohibitions = prohibition (codes "bar") (subject.User 2) 1 [] (4 ∷ []) All ∷ [] }
+    ∷ record (opening_with (doctors ∷ element 4 User (codes "ann") ∷ []) ((3, 0) ∷ (4, 3) ∷ [])) {
+      procs = procs (session 0 2 ∷ session 1 4 ∷ []) (process 0 0 ∷ []) 2 1;
+    } ∷ []
+
+-- ---- a delegate
+
+-- two wards in a class; ann heads the first, where she may create users. A prohibition denies it to her process 2, and one
+-- denies it to root on the second ward.
+abbrev pub wards : Graph
+wards = record (opening_with (element 3 Pc (codes "wards") ∷ element 4 Ua (codes "east") ∷ element 5 Ua (codes "west")
+    ∷ element 6 Ua (codes "heads") ∷ element 7 User (codes "ann") ∷ []) ((4, 3) ∷ (5, 3) ∷ (6, 3) ∷ (7, 6) ∷ [])) {
+      associations = record { ua = 6; rights = 4; at = 4 } ∷ [];
+      prohibitions = prohibition (codes "hold") (subject.Process 2) 4 (4 ∷ []) [] All
+          ∷ prohibition (codes "lock") (subject.User 2) 4 (5 ∷ []) [] All ∷ [];
+      procs = procs (session 0 2 ∷ session 1 7 ∷ []) (process 0 0 ∷ process 1 1 ∷ process 2 1 ∷ []) 2 3;
+    }
+
+-- a user, a process and a command, and the ruling
+abbrev pub ruled : List (ℕ × Option ℕ × Command × Result Change Refusal)
+ruled =
+    (7, Some 1, command.Create User (codes "bob") (codes "east"), Ok (Create 8 User (codes "bob") (Some 4)))
+    ∷ (7, Some 1, command.Create User (codes "bob") (codes "west"), Err (Denied (codes "create_user") 5 (reason.Class 3)))
+    ∷ (7, Some 1, command.Create Ua (codes "team") (codes "east"), Err (Denied (codes "create_ua") 4 (reason.Class 3)))
+    ∷ (7, Some 2, command.Create User (codes "bob") (codes "east"), Err (Denied (codes "create_user") 4 (reason.Prohibition (codes "hold"))))
+    ∷ (7, Some 1, command.CreatePc (codes "labs"), Err (Denied (codes "create_ua") 0 (reason.Class 0)))
+    ∷ (7, Some 1, command.Delete (codes "west"), Err (Denied (codes "delete") 5 (reason.Class 3)))
+    -- a name that isn't found comes before any capability
+    ∷ (7, Some 1, command.Delete (codes "north"), Err (UnknownName (codes "north")))
+    -- root may do all, and no prohibition denies it
+    ∷ (2, Some 0, command.Create User (codes "bob") (codes "west"), Ok (Create 8 User (codes "bob") (Some 5)))
+    ∷ (2, Some 0, command.Delete (codes "west"), Ok (Delete 5)) ∷ []
+
+-- ---- not well formed
 
 -- each breaks one rule
 abbrev pub unformed : List Graph
@@ -74,4 +201,22 @@ unformed =
     -- a name twice
     ∷ opening_with (doctors ∷ element 4 Ua (codes "doctors") ∷ []) ((3, 0) ∷ (4, 0) ∷ [])
     -- without an assignment of the opening
-    ∷ record { elements = opening_elements ++ doctors ∷ []; assigned = (1, 0) ∷ (3, 0) ∷ (2, 3) ∷ []; associations = [] } ∷ []
+    ∷ record opening_graph { elements = opening_elements ++ doctors ∷ []; assigned = (1, 0) ∷ (3, 0) ∷ (2, 3) ∷ [] }
+    -- an association with a right that has no name
+    ∷ record staffed { associations = joint (2 ^ 17) ∷ [] }
+    -- two prohibitions of one name
+    ∷ working started (hold ∷ hold ∷ [])
+    -- a prohibition on a process that has ended
+    ∷ working (procs (session 0 2 ∷ []) (process 0 0 ∷ []) 2 2) (hold ∷ [])
+    -- a prohibition without a range
+    ∷ working started (prohibition (codes "bar") (subject.Process 1) 1 [] [] All ∷ [])
+    -- a process of no session
+    ∷ working (procs (session 0 2 ∷ []) (process 0 0 ∷ process 1 1 ∷ []) 2 2) []
+    -- a session of no element
+    ∷ working (procs (session 0 2 ∷ session 1 9 ∷ []) (process 0 0 ∷ []) 2 1) []
+    -- a session whose number may be given once more
+    ∷ working (procs (session 0 2 ∷ session 1 2 ∷ []) (process 0 0 ∷ []) 1 1) []
+    -- without the session of the opening
+    ∷ working (procs [] [] 1 1) []
+    -- a right's name twice
+    ∷ record opening_graph { rights = opening_rights ++ codes "read" ∷ [] } ∷ []

@@ -1,11 +1,17 @@
--- What well formed comes to, in the standard's words: assignments join elements of certain kinds and order them, and each
--- element leads to a policy class. What is said of names is the project's own.
-use Rattle.std.specs.Prelude.{◌≡◌, ℕ, List, Contains, Some, true}
+-- What the definitions come to, in the standard's words: assignments join elements of certain kinds and order them, each
+-- element leads to a policy class, and each process acts for one user. What is said of names and of numbers is the
+-- project's own.
+use Rattle.std.specs.Prelude.{◌≡◌, ◌≤◌, ◌<◌, ◌+◌, ◌⊎◌, ℕ, List, Contains, Some, true}
 use Rattle.pm_model.specs.State.{Graph, element_at}
 use Rattle.pm_model.specs.Containment.{IsContained}
 use Rattle.pm_model.specs.Effect.{may_assign}
+use Rattle.pm_model.specs.Formed.{IsLive}
 use Rattle.pm_model.specs.declared.elements.Kind.TheVariants.{Pc}
 use Rattle.pm_model.specs.declared.elements.Element.{Element}
+use Rattle.pm_model.specs.declared.sessions.Session.{Session}
+use Rattle.pm_model.specs.declared.sessions.Process.{Process}
+use Rattle.pm_model.specs.declared.prohibitions.Prohibition.{Prohibition}
+use Rattle.pm_model.specs.declared.prohibitions.Subject.TheVariants as subject
 
 pub record IsPartialOrder (Below : ℕ → ℕ → Type 0) : Type 0 where
   pub reflexive : (x : ℕ) → Below x x
@@ -25,3 +31,34 @@ IsJoined G x y =
 -- the element of the number has the name
 abbrev pub IsNumberOf : Graph → ℕ → List ℕ → Type 0
 IsNumberOf G n name = (e : Element) × (element_at G.elements n ≡ Some e) × (e.name ≡ name)
+
+-- the live process of the number is of a live session of the user
+abbrev pub ActsFor : Graph → ℕ → ℕ → Type 0
+ActsFor G n u =
+    (p : Process) × (s : Session) × Contains G.procs.processes p × (p.number ≡ n) × Contains G.procs.sessions s × (s.number ≡ p.session)
+    × (s.user ≡ u)
+
+-- the process acts for this user, who is live, and for no other
+pub record ActsForOne (G : Graph) (n u : ℕ) : Type 0 where
+  pub acts : ActsFor G n u
+  pub live : IsLive G.elements u
+  pub only : (v : ℕ) → ActsFor G n v → v ≡ u
+
+-- of the session of G that H no longer has nothing is left there: neither it, nor a process of it, nor a prohibition on one
+pub record IsGone (G H : Graph) (n : ℕ) : Type 0 where
+  pub session : (s : Session) → Contains H.procs.sessions s → s.number ≡ n → ⊥
+  pub processes : (p : Process) → Contains H.procs.processes p → p.session ≡ n → ⊥
+  pub prohibitions : (q : Prohibition) (p : Process) → Contains H.prohibitions q → Contains G.procs.processes p → p.session ≡ n →
+      q.subject ≡ subject.Process p.number → ⊥
+
+-- what is new has the next number, which then rises above it; it rises by one at most, and never falls
+pub record GivesNext {X : Type 0} (number : X → ℕ) (old new : List X) (next later : ℕ) : Type 0 where
+  pub rises : next ≤ later
+  pub by_one : later ≤ next + 1
+  pub fresh : (x : X) → Contains new x → Contains old x ⊎ ((number x ≡ next) × (next < later))
+
+-- so it is with the sessions and with the processes
+abbrev pub GiveNext : Graph → Graph → Type 0
+GiveNext G H =
+    GivesNext (λ (s : Session). s.number) G.procs.sessions H.procs.sessions G.procs.next_session H.procs.next_session
+    × GivesNext (λ (p : Process). p.number) G.procs.processes H.procs.processes G.procs.next_process H.procs.next_process

@@ -1,20 +1,30 @@
 //! What the definitions of the graph say of one another: laws, with no program.
 #![tactic(auto)]
 
-ghost use Rattle.std.specs.Prelude.{◌≡◌, ◌↔◌, ℕ, List, Contains, Some, Ok, Err, is_some};
-ghost use Rattle.pm_model.specs.State.{State, Graph, opening, element_at, number_named};
-ghost use Rattle.pm_model.specs.Containment.{IsContained};
-ghost use Rattle.pm_model.specs.Effect.{effect};
+ghost use Rattle.std.specs.Prelude.{◌≡◌, ◌↔◌, ◌≤◌, ◌<◌, ◌+◌, ◌⊎◌, ℕ, List, Contains, Option, Some, IsSome, slice_get, None, Ok, Err, is_some, true, false};
+ghost use Rattle.std.specs.List.{list_any};
+ghost use Rattle.pm_model.specs.State.{State, Graph, root, opening, element_at, number_named, classes_in};
+ghost use Rattle.pm_model.specs.Sessions.{user_of};
+ghost use Rattle.pm_model.specs.Containment.{contained, IsContained};
+ghost use Rattle.pm_model.specs.Decision.{privilege, forbids};
+ghost use Rattle.pm_model.specs.Results.{and_then};
+ghost use Rattle.pm_model.specs.Effect.{changed, effect};
 ghost use Rattle.pm_model.specs.Resolve.{resolve};
-ghost use Rattle.pm_model.specs.Answer.{administered, answer, after};
+ghost use Rattle.pm_model.specs.Answer.{answer, after};
+ghost use Rattle.pm_model.specs.Authority.{is_administrative, denial_in, required, ruling};
+ghost use Rattle.pm_model.specs.RightSet.{is_access_right};
 ghost use Rattle.pm_model.specs.Nameable.{IsNameable};
-ghost use Rattle.pm_model.specs.Formed.{Each, IsWellFormed, IsNamed};
+ghost use Rattle.pm_model.specs.Formed.{Each, IsLive, HasNext, IsWellFormed, IsNamed};
 ghost use Rattle.pm_model.specs.declared.elements.Element.{Element};
 ghost use Rattle.pm_model.specs.declared.requests.Change.{Change};
+ghost use Rattle.pm_model.specs.declared.requests.Change.TheVariants.{CloseSession, Delete};
+ghost use Rattle.pm_model.specs.declared.replies.Refusal.TheVariants.{InUse};
 ghost use Rattle.pm_model.specs.declared.requests.Command.{Command};
 ghost use Rattle.pm_model.specs.declared.requests.Request.{Request};
-ghost use Rattle.pm_laws.specs.Examples.{staffed, made, refused, unformed};
-ghost use Rattle.pm_laws.specs.Meaning.{IsJoined, IsPartialOrder, IsInClass, IsNumberOf};
+ghost use Rattle.pm_model.specs.declared.sessions.Session.{Session};
+ghost use Rattle.pm_model.specs.declared.sessions.Process.{Process};
+ghost use Rattle.pm_laws.specs.Examples.{staffed, held, made, refused, refused_at_work, in_use, wards, ruled, unformed};
+ghost use Rattle.pm_laws.specs.Meaning.{IsJoined, IsPartialOrder, IsInClass, IsNumberOf, ActsFor, ActsForOne, IsGone, GiveNext};
 
 /// What a change makes of a well formed graph is well formed.
 pub fn formed_effect()
@@ -31,9 +41,16 @@ pub fn resolve_named()
     ensures { (G : Graph) (c : Command) (d : Change) → resolve G c ≡ Ok d → IsNamed G d }
 {}
 
-/// What a command makes of a well formed graph is well formed.
+/// A command on a well formed graph, once its names are found and none of its preconditions refuses
+/// it, gives a well formed graph.
 pub fn formed_administered()
-    ensures { (G H : Graph) (c : Command) → IsWellFormed G → administered G c ≡ Ok H → IsWellFormed H }
+    ensures { (G H : Graph) (c : Command) → IsWellFormed G → and_then (resolve G c) (effect G) ≡ Ok H → IsWellFormed H }
+{}
+
+/// The state after an answer is well formed, whatever the request, where there are numbers left for a
+/// new session and a new process.
+pub fn formed_answer()
+    ensures { (S : State) (r : Request) → IsWellFormed S.graph → HasNext S.graph.procs.next_session → HasNext S.graph.procs.next_process → IsWellFormed (after S (answer S r)).graph }
 {}
 
 /// A name is looked up as the number of the one element that has it.
@@ -65,16 +82,105 @@ pub fn element_is_in_class()
     ensures { (G : Graph) (e : Element) → IsWellFormed G → Contains G.elements e → IsInClass G e }
 {}
 
+/// The user for whom a process acts is live.
+pub fn process_user_live()
+    ensures { (G : Graph) (p u : ℕ) → IsWellFormed G → user_of G.procs p ≡ Some u → IsLive G.elements u }
+{}
+
+/// Each process acts for one user, who is live.
+#[tactic(auto, using(crate::proofs::Acting::process_acts_for_one_user))]
+pub fn process_acts_for_one_user()
+    ensures { (G : Graph) (p : Process) → IsWellFormed G → Contains G.procs.processes p → (u : ℕ) × (user_of G.procs p.number ≡ Some u) × ActsForOne G p.number u }
+{}
+
+/// The user of a process is looked up as the user of the session that it is of.
+pub fn user_acted_for()
+    ensures { (G : Graph) (n u : ℕ) → IsWellFormed G → (user_of G.procs n ≡ Some u) ↔ ActsFor G n u }
+{}
+
+/// A session's close leaves neither it, nor a process of it, nor a prohibition on one.
+#[tactic(auto, using(crate::proofs::Acting::closed_session_is_gone))]
+pub fn closed_session_is_gone()
+    ensures { (G : Graph) (n : ℕ) → IsGone G (changed G (CloseSession n)) n }
+{}
+
+/// What a change opens or starts has the next number, and the next number only rises.
+pub fn numbers_given()
+    ensures { (G H : Graph) (c : Change) → effect G c ≡ Ok H → GiveNext G H }
+{}
+
+/// A change gives at most one number of a session and one of a process.
+pub fn next_numbers()
+    ensures { (G H : Graph) (c : Change) → effect G c ≡ Ok H → (H.procs.next_session ≤ G.procs.next_session + 1) × (H.procs.next_process ≤ G.procs.next_process + 1) }
+{}
+
+/// The number of each session and process is below the next one, which so was never given.
+pub fn numbers_below()
+    ensures { (G : Graph) → IsWellFormed G → Each (λ (s : Session). s.number < G.procs.next_session) G.procs.sessions × Each (λ (p : Process). p.number < G.procs.next_process) G.procs.processes }
+{}
+
+/// A right on an element is allowed exactly where the user is root and the right administrative, or the
+/// user has the privilege, and no prohibition applies to the user or the process and covers the right on
+/// the element.
+#[tactic(auto, using(crate::proofs::Granted::allowed_exactly))]
+pub fn allowed_exactly()
+    ensures { (G : Graph) (u : ℕ) (q : Option ℕ) (r e : ℕ) → (denial_in G u q r e ≡ None) ↔ (((u ≡ root) × (is_administrative r ≡ true)) ⊎ ((privilege (contained G.assigned) G.associations (classes_in G.elements) u r e ≡ true) × (list_any (forbids (contained G.assigned) u q r e) G.prohibitions ≡ false))) }
+{}
+
+/// A command is allowed as the change that its names resolve to, exactly where each capability that the
+/// change asks for is allowed to the user and the process.
+#[tactic(auto, using(crate::proofs::Authority::ruled_exactly))]
+pub fn ruled_exactly()
+    ensures { (G : Graph) (u : ℕ) (q : Option ℕ) (c : Command) (d : Change) → (ruling G u q c ≡ Ok d) ↔ ((resolve G c ≡ Ok d) × Each (λ (c : ℕ × ℕ). denial_in G u q c.0 c.1 ≡ None) (required G d)) }
+{}
+
+/// What a command that is allowed names is live, and what it is to make has the next number.
+pub fn ruling_named()
+    ensures { (G : Graph) (u : ℕ) (q : Option ℕ) (c : Command) (d : Change) → ruling G u q c ≡ Ok d → IsNamed G d }
+{}
+
+/// The root user is denied no command whose names are found.
+#[tactic(auto, using(crate::proofs::Authority::root_may_all))]
+pub fn root_may_all()
+    ensures { (G : Graph) (q : Option ℕ) (c : Command) (d : Change) → resolve G c ≡ Ok d → ruling G root q c ≡ Ok d }
+{}
+
+/// Each element on which a change asks for a right is live.
+pub fn required_live()
+    ensures { (G : Graph) (d : Change) → IsWellFormed G → IsNamed G d → Each (λ (c : ℕ × ℕ). IsLive G.elements c.1) (required G d) }
+{}
+
+/// Each right that a change asks for is administrative and has a name.
+pub fn required_rights()
+    ensures administrative { (G : Graph) (d : Change) → Each (λ (c : ℕ × ℕ). is_administrative c.0 ≡ true) (required G d) }
+    ensures named { (G : Graph) (d : Change) → IsWellFormed G → Each (λ (c : ℕ × ℕ). IsSome (slice_get G.rights c.0)) (required G d) }
+{}
+
+/// An access is granted exactly where the user has the privilege, and no prohibition applies to the
+/// user or the process and covers the right on the target.
+#[tactic(auto, using(crate::proofs::Granted::granted_exactly))]
+pub fn granted_exactly()
+    ensures { (G : Graph) (u q r e : ℕ) → is_access_right r ≡ true → (denial_in G u (Some q) r e ≡ None) ↔ ((privilege (contained G.assigned) G.associations (classes_in G.elements) u r e ≡ true) × (list_any (forbids (contained G.assigned) u (Some q) r e) G.prohibitions ≡ false)) }
+{}
+
 /// Changes of small graphs, and what they make.
 #[tactic(auto, using(crate::proofs::Computed::examples_made))]
 pub fn examples_made()
     ensures { Each (λ row. IsNamed row.0 row.1 × (effect row.0 row.1 ≡ Ok row.2)) made }
 {}
 
-/// Changes of one small graph, and why they are refused.
-#[tactic(auto, using(crate::proofs::Computed::examples_refused))]
+/// Changes of small graphs, and why they are refused.
+#[tactic(auto, using(crate::proofs::Computed::examples_refused, crate::proofs::Computed::examples_refused_at_work, crate::proofs::Computed::examples_in_use))]
 pub fn examples_refused()
-    ensures { Each (λ row. effect staffed row.0 ≡ Err row.1) refused }
+    ensures staffed { Each (λ row. effect staffed row.0 ≡ Err row.1) refused }
+    ensures at_work { Each (λ row. effect held row.0 ≡ Err row.1) refused_at_work }
+    ensures in_use { Each (λ G. effect G (Delete 4) ≡ Err InUse) in_use }
+{}
+
+/// Commands of a delegate and of root, and whether each is allowed.
+#[tactic(auto, using(crate::proofs::Computed::examples_ruled))]
+pub fn examples_ruled()
+    ensures { Each (λ row. ruling wards row.0 row.1 row.2 ≡ row.3) ruled }
 {}
 
 /// Small graphs that aren't well formed.

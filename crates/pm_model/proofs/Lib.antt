@@ -1,2 +1,3 @@
 pub mod ContainmentLaws
+pub mod Joined
 pub mod Walks

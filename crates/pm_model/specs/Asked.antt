@@ -1,6 +1,6 @@
 -- What a line asks, by a look-up of its members. JSON itself is serde_json's word `read`; the forms and their order are
 -- the project's own.
-use Rattle.std.specs.Prelude.{ℕ, ◌^◌, List, [], ◌∷◌, ◌++◌, ◌&&◌, if◌then◌else◌, nat_lt, nat_le, length, bytes_eq, Option, None, Some, option_and_then, option_map, Result, Ok, Err}
+use Rattle.std.specs.Prelude.{ℕ, ◌+◌, ◌^◌, List, [], ◌∷◌, ◌++◌, ◌&&◌, if◌then◌else◌, nat_lt, nat_le, length, bytes_eq, Option, None, Some, option_and_then, option_map, Result, Ok, Err}
 use Rattle.std.specs.List.{list_any}
 use Rattle.std.specs.Str.{is_utf8}
 use Rattle.serde_json.specs.Data.{Data, Items, no_items, item}
@@ -19,9 +19,13 @@ use Rattle.pm_model.specs.declared.lines.Field.TheVariants as field
 use Rattle.pm_model.specs.declared.elements.Kind.{Kind}
 use Rattle.pm_model.specs.declared.elements.Kind.TheVariants.{User, Ua, Object, Oa}
 use Rattle.pm_model.specs.declared.requests.Command.{Command}
-use Rattle.pm_model.specs.declared.requests.Command.TheVariants.{CreatePc, Create, Assign, Deassign, Associate, Dissociate}
+use Rattle.pm_model.specs.declared.requests.Command.TheVariants.{CreatePc, Create, Delete, Assign, Deassign, Associate, Dissociate, Prohibit, Lift, DefineRight}
+use Rattle.pm_model.specs.declared.prohibitions.Mode.{Mode}
+use Rattle.pm_model.specs.declared.prohibitions.Mode.TheVariants as mode
+use Rattle.pm_model.specs.declared.prohibitions.Subject.{Subject}
+use Rattle.pm_model.specs.declared.prohibitions.Subject.TheVariants as subject
 use Rattle.pm_model.specs.declared.requests.Body.{Body}
-use Rattle.pm_model.specs.declared.requests.Body.TheVariants.{Version, Access, Admin}
+use Rattle.pm_model.specs.declared.requests.Body.TheVariants.{Version, OpenSession, CloseSession, StartProcess, EndProcess, Access, Admin}
 use Rattle.pm_model.specs.declared.requests.Request.{Request}
 use Rattle.pm_model.specs.declared.requests.What.{What}
 use Rattle.pm_model.specs.declared.requests.What.TheVariants as what
@@ -64,6 +68,30 @@ if_some_few ns = if nat_lt 0 (length ns) && nat_le (length ns) 32 then Some (unl
 abbrev pub rights_form : Data → Option (List (List ℕ))
 rights_form d = option_and_then if_some_few (option_and_then names_of (as_array d))
 
+-- a list of names, which may be empty
+abbrev pub list_form : Data → Option (List (List ℕ))
+list_form d = option_and_then names_of (as_array d)
+
+-- where both lists together have at most 32 names
+abbrev pub if_few_beside : List (List ℕ) → List (List ℕ) → Option (List (List ℕ))
+if_few_beside inc exc = if nat_le (length inc + length exc) 32 then Some exc else None
+
+abbrev pub mode_of : List ℕ → Option Mode
+mode_of w = if bytes_eq w (word_text word.All) then Some mode.All else (if bytes_eq w (word_text word.Any) then Some mode.Any else None)
+
+abbrev pub mode_form : Data → Option Mode
+mode_form d = option_and_then mode_of (as_str d)
+
+-- exactly one of the keys `user`, `ua` and `process` is there
+abbrev pub one_subject : Option Data → Option Data → Option Data → Option (Subject (List ℕ) ℕ)
+one_subject (Some u) None None = option_map subject.User (name_form u)
+one_subject None (Some a) None = option_map subject.Ua (name_form a)
+one_subject None None (Some p) = option_map subject.Process (short_form p)
+one_subject _ _ _ = None
+
+abbrev pub subject_form : Data → Option (Subject (List ℕ) ℕ)
+subject_form d = one_subject (get (key_text key.User) d) (get (key_text key.Ua) d) (get (key_text key.Process) d)
+
 -- ---- fields
 
 abbrev pub required : {A : Type 0} → Field → Option A → Result A BadLine
@@ -81,8 +109,23 @@ module _ (look : List ℕ → Option Data) where
   abbrev pub name_at : Field → Key → Result (List ℕ) BadLine
   name_at f k = required f (option_and_then name_form (look (key_text k)))
 
+  abbrev pub number_at : Field → Key → Result ℕ BadLine
+  number_at f k = required f (option_and_then short_form (look (key_text k)))
+
   abbrev pub process_of : Result ℕ BadLine
-  process_of = required field.Proc (option_and_then short_form (look (key_text key.Proc)))
+  process_of = number_at field.Proc key.Proc
+
+  abbrev pub open_session_of : Result Body BadLine
+  open_session_of = and_then (name_at field.User key.User) (λ user. Ok (OpenSession user))
+
+  abbrev pub close_session_of : Result Body BadLine
+  close_session_of = and_then (number_at field.Session key.Session) (λ session. Ok (CloseSession session))
+
+  abbrev pub start_process_of : Result Body BadLine
+  start_process_of = and_then (number_at field.Session key.Session) (λ session. Ok (StartProcess session))
+
+  abbrev pub end_process_of : Result Body BadLine
+  end_process_of = and_then (number_at field.Process key.Process) (λ process. Ok (EndProcess process))
 
   abbrev pub create_pc_of : Result Command BadLine
   create_pc_of = and_then (name_at field.Name key.Name) (λ name. Ok (CreatePc name))
@@ -91,6 +134,9 @@ module _ (look : List ℕ → Option Data) where
   create_of kind =
       and_then (name_at field.Name key.Name) (λ name.
       and_then (name_at field.Into key.Into) (λ into. Ok (Create kind name into)))
+
+  abbrev pub delete_of : Result Command BadLine
+  delete_of = and_then (name_at field.Name key.Name) (λ name. Ok (Delete name))
 
   -- the fields `from` and `to`
   abbrev pub ends_of : Result (List ℕ × List ℕ) BadLine
@@ -104,16 +150,50 @@ module _ (look : List ℕ → Option Data) where
   abbrev pub deassign_of : Result Command BadLine
   deassign_of = and_then ends_of (λ ends. Ok (Deassign ends.0 ends.1))
 
+  -- the set of rights
+  abbrev pub rights_at : Result (List (List ℕ)) BadLine
+  rights_at = required field.Rights (option_and_then rights_form (look (key_text key.Rights)))
+
   abbrev pub associate_of : Result Command BadLine
   associate_of =
       and_then (name_at field.Ua key.Ua) (λ ua.
-      and_then (required field.Rights (option_and_then rights_form (look (key_text key.Rights)))) (λ rights.
+      and_then rights_at (λ rights.
       and_then (name_at field.At key.At) (λ at. Ok (Associate ua rights at))))
 
   abbrev pub dissociate_of : Result Command BadLine
   dissociate_of =
       and_then (name_at field.Ua key.Ua) (λ ua.
       and_then (name_at field.At key.At) (λ at. Ok (Dissociate ua at)))
+
+  abbrev pub subject_at : Result (Subject (List ℕ) ℕ) BadLine
+  subject_at = required field.Subject (option_and_then subject_form (look (key_text key.Subject)))
+
+  abbrev pub mode_at : Result Mode BadLine
+  mode_at = required field.Mode (option_and_then mode_form (look (key_text key.Mode)))
+
+  abbrev pub inc_at : Result (List (List ℕ)) BadLine
+  inc_at = required field.Inc (option_and_then list_form (look (key_text key.Inc)))
+
+  abbrev pub exc_at : List (List ℕ) → Result (List (List ℕ)) BadLine
+  exc_at inc = required field.Exc (option_and_then (if_few_beside inc) (option_and_then list_form (look (key_text key.Exc))))
+
+  -- the fields `inc` and `exc`
+  abbrev pub sets_of : Result (List (List ℕ) × List (List ℕ)) BadLine
+  sets_of = and_then inc_at (λ inc. and_then (exc_at inc) (λ exc. Ok (inc, exc)))
+
+  abbrev pub prohibit_of : Result Command BadLine
+  prohibit_of =
+      and_then (name_at field.Name key.Name) (λ name.
+      and_then subject_at (λ subject.
+      and_then rights_at (λ rights.
+      and_then sets_of (λ sets.
+      and_then mode_at (λ mode. Ok (Prohibit name subject rights sets.0 sets.1 mode))))))
+
+  abbrev pub lift_of : Result Command BadLine
+  lift_of = and_then (name_at field.Name key.Name) (λ name. Ok (Lift name))
+
+  abbrev pub define_right_of : Result Command BadLine
+  define_right_of = and_then (name_at field.Name key.Name) (λ name. Ok (DefineRight name))
 
   abbrev pub access_of : Result Body BadLine
   access_of =
@@ -128,17 +208,25 @@ module _ (look : List ℕ → Option Data) where
   abbrev pub row_of : List ℕ → Option (Result Body BadLine)
   row_of w =
       if bytes_eq w (word_text word.Version) then Some (Ok Version)
+      else (if bytes_eq w (word_text word.OpenSession) then Some open_session_of
+      else (if bytes_eq w (word_text word.CloseSession) then Some close_session_of
+      else (if bytes_eq w (word_text word.StartProcess) then Some start_process_of
+      else (if bytes_eq w (word_text word.EndProcess) then Some end_process_of
       else (if bytes_eq w (word_text word.CreatePc) then Some (admin_of create_pc_of)
       else (if bytes_eq w (word_text word.CreateUser) then Some (admin_of (create_of User))
       else (if bytes_eq w (word_text word.CreateUa) then Some (admin_of (create_of Ua))
       else (if bytes_eq w (word_text word.CreateOa) then Some (admin_of (create_of Oa))
       else (if bytes_eq w (word_text word.CreateObject) then Some (admin_of (create_of Object))
+      else (if bytes_eq w (word_text word.Delete) then Some (admin_of delete_of)
       else (if bytes_eq w (word_text word.Assign) then Some (admin_of assign_of)
       else (if bytes_eq w (word_text word.Deassign) then Some (admin_of deassign_of)
       else (if bytes_eq w (word_text word.Associate) then Some (admin_of associate_of)
       else (if bytes_eq w (word_text word.Dissociate) then Some (admin_of dissociate_of)
+      else (if bytes_eq w (word_text word.Prohibit) then Some (admin_of prohibit_of)
+      else (if bytes_eq w (word_text word.Lift) then Some (admin_of lift_of)
+      else (if bytes_eq w (word_text word.DefineRight) then Some (admin_of define_right_of)
       else (if bytes_eq w (word_text word.Access) then Some access_of
-      else None))))))))))
+      else None))))))))))))))))))
 
   -- `id`, `after`, then the fields of the row
   abbrev pub with_head : Result Body BadLine → Result Request BadLine

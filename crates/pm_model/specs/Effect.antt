@@ -2,18 +2,24 @@
 -- administrative commands, each a precondition and an update of the relations; the order of the preconditions, a full
 -- table last, is the project's own. One clause of `checks` and one of `changed` for each change.
 use Rattle.std.specs.Prelude.{◌≡◌, ℕ, Bool, true, false, not, ◌==◌, ◌&&◌, ◌||◌, ◌++◌, nat_le, nat_lt, List, [], ◌∷◌, length, Option, None, Some, Result, filter, if◌then◌else◌, is_some}
-use Rattle.std.specs.List.{list_any}
+use Rattle.std.specs.List.{list_any, list_all, remove}
 use Rattle.pm_model.specs.Results.{first_of, unless}
-use Rattle.pm_model.specs.State.{Graph, element, element_at, is_named}
+use Rattle.pm_model.specs.State.{Graph, element, element_at, is_named, is_numbered}
 use Rattle.pm_model.specs.Containment.{contained}
+use Rattle.pm_model.specs.Prohibitions.{prohibit_checks, without_processes, names_element}
+use Rattle.pm_model.specs.RightSet.{define_checks}
+use Rattle.pm_model.specs.declared.prohibitions.Prohibition.{Prohibition}
+use Rattle.pm_model.specs.declared.prohibitions.Subject.{Subject}
+use Rattle.pm_model.specs.declared.prohibitions.Subject.TheVariants as subject
+use Rattle.pm_model.specs.Sessions.{processes_of, is_session_of, open_checks, close_checks, start_checks, end_checks, with_session, without_session, with_process, without_process}
 use Rattle.pm_model.specs.declared.elements.Kind.{Kind}
 use Rattle.pm_model.specs.declared.elements.Kind.TheVariants.{User, Ua, Object, Oa, Pc}
 use Rattle.pm_model.specs.declared.elements.Element.{Element}
 use Rattle.pm_model.specs.declared.requests.Change.{Change}
-use Rattle.pm_model.specs.declared.requests.Change.TheVariants.{Create, Assign, Deassign, Associate, Dissociate}
+use Rattle.pm_model.specs.declared.requests.Change.TheVariants.{Create, Delete, Assign, Deassign, Associate, Dissociate, OpenSession, CloseSession, StartProcess, EndProcess, Prohibit, Lift, DefineRight}
 use Rattle.pm_model.specs.declared.rights.Association.{Association}
 use Rattle.pm_model.specs.declared.replies.Refusal.{Refusal}
-use Rattle.pm_model.specs.declared.replies.Refusal.TheVariants.{BadKinds, NameTaken, Already, Absent, Cycle, LastContainer, Builtin, Full}
+use Rattle.pm_model.specs.declared.replies.Refusal.TheVariants.{BadKinds, NameTaken, Already, Absent, Cycle, Occupied, InUse, LastContainer, Builtin, Full}
 use Rattle.pm_model.specs.declared.replies.Table.TheVariants.{Elements, Assignments, Associations}
 use Rattle.pm_model.specs.declared.replies.ChangeError.{ChangeError}
 use Rattle.pm_model.specs.declared.replies.ChangeError.TheVariants.{Refused, Memory}
@@ -51,6 +57,37 @@ abbrev pub both : (Kind → Kind → Bool) → Option Element → Option Element
 both fits (Some a) (Some b) = fits a.kind b.kind
 both fits _ _ = false
 
+abbrev pub is_user_kind : Kind → Bool
+is_user_kind User = true
+is_user_kind _ = false
+
+abbrev pub is_ua_kind : Kind → Bool
+is_ua_kind Ua = true
+is_ua_kind _ = false
+
+-- what may stand in a set of a prohibition
+abbrev pub is_place_kind : Kind → Bool
+is_place_kind Ua = true
+is_place_kind Oa = true
+is_place_kind Object = true
+is_place_kind _ = false
+
+abbrev pub has_kind : (Kind → Bool) → Option Element → Bool
+has_kind fits (Some e) = fits e.kind
+has_kind fits None = false
+
+abbrev pub is_place : List Element → ℕ → Bool
+is_place es n = has_kind is_place_kind (element_at es n)
+
+abbrev pub has_subject_kind : List Element → Subject ℕ ℕ → Bool
+has_subject_kind es (subject.User n) = has_kind is_user_kind (element_at es n)
+has_subject_kind es (subject.Ua n) = has_kind is_ua_kind (element_at es n)
+has_subject_kind es (subject.Process n) = true
+
+-- which kinds a prohibition may name
+abbrev pub may_prohibit : List Element → Prohibition → Bool
+may_prohibit es p = has_subject_kind es p.subject && list_all (is_place es) p.inc && list_all (is_place es) p.exc
+
 -- whether an element of this kind may be made there; without a container it is a class
 abbrev pub may_create : List Element → Kind → Option ℕ → Bool
 may_create es kind None = true
@@ -86,6 +123,26 @@ joined a (b ∷ bs) = if nat_lt a.ua b.ua then a ∷ b ∷ bs else b ∷ joined 
 abbrev pub is_builtin : ℕ → ℕ → Bool
 is_builtin x y = (x == 1 && y == 0) || (x == 2 && y == 1)
 
+-- an element of the opening state
+abbrev pub is_builtin_element : ℕ → Bool
+is_builtin_element n = nat_lt n 3
+
+abbrev pub is_to : ℕ → (ℕ × ℕ) → Bool
+is_to y pair = pair.1 == y
+
+-- whether something is assigned to the element
+abbrev pub has_child : List (ℕ × ℕ) → ℕ → Bool
+has_child pairs y = list_any (is_to y) pairs
+
+-- the element is at one end of the association
+abbrev pub has_end : ℕ → Association → Bool
+has_end id a = a.ua == id || a.at == id
+
+-- an association, a prohibition or a session names the element
+abbrev pub is_in_use : Graph → ℕ → Bool
+is_in_use G id =
+    list_any (has_end id) G.associations || list_any (names_element id) G.prohibitions || list_any (is_session_of id) G.procs.sessions
+
 -- ---- preconditions in order: when each isn't met, and what is answered then
 
 abbrev pub create_checks : List Element → List (ℕ × ℕ) → Kind → List ℕ → Option ℕ → List (Bool × Refusal)
@@ -117,21 +174,44 @@ dissociate_checks associations ua at = (not (list_any (joins ua at) associations
 
 abbrev pub checks : Graph → Change → List (Bool × Refusal)
 checks G (Create id kind name into) = create_checks G.elements G.assigned kind name into
+checks G (Delete id) =
+    (is_builtin_element id, Builtin) ∷ (has_child G.assigned id, Occupied) ∷ (is_in_use G id, InUse) ∷ []
 checks G (Assign x y) = assign_checks G.elements G.assigned x y
 checks G (Deassign x y) = (is_builtin x y, Builtin) ∷ deassign_checks G.assigned x y
 checks G (Associate u r t) =
     (not (both may_associate (element_at G.elements u) (element_at G.elements t)), BadKinds) ∷ associate_checks G.associations u t
 checks G (Dissociate u t) = dissociate_checks G.associations u t
+checks G (OpenSession u) = (not (has_kind is_user_kind (element_at G.elements u)), BadKinds) ∷ open_checks G.procs
+checks G (CloseSession n) = close_checks G.procs n
+checks G (StartProcess n) = start_checks G.procs n
+checks G (EndProcess n) = end_checks G.procs n
+checks G (Prohibit p) = (not (may_prohibit G.elements p), BadKinds) ∷ prohibit_checks G.prohibitions p
+checks G (Lift i) = []
+checks G (DefineRight name) = define_checks G.rights name
 
 -- ---- effects
 
 abbrev pub changed : Graph → Change → Graph
 changed G (Create id kind name into) =
     record G { elements = placed (element id kind name) G.elements; assigned = with_pair into id G.assigned }
+changed G (Delete id) =
+    record G {
+      elements = filter (λ e. not (is_numbered id e)) G.elements;
+      assigned = filter (λ pair. not (is_from id pair)) G.assigned;
+    }
 changed G (Assign x y) = record G { assigned = G.assigned ++ (x, y) ∷ [] }
 changed G (Deassign x y) = record G { assigned = filter (λ pair. not (is_pair x y pair)) G.assigned }
 changed G (Associate u r t) = record G { associations = joined (record { ua = u; rights = r; at = t }) G.associations }
 changed G (Dissociate u t) = record G { associations = filter (λ a. not (joins u t a)) G.associations }
+changed G (OpenSession u) = record G { procs = with_session u G.procs }
+changed G (CloseSession n) =
+    record G { procs = without_session n G.procs; prohibitions = without_processes (processes_of G.procs n) G.prohibitions }
+changed G (StartProcess n) = record G { procs = with_process n G.procs }
+changed G (EndProcess n) =
+    record G { procs = without_process n G.procs; prohibitions = without_processes (n ∷ []) G.prohibitions }
+changed G (Prohibit p) = record G { prohibitions = G.prohibitions ++ p ∷ [] }
+changed G (Lift i) = record G { prohibitions = remove G.prohibitions i }
+changed G (DefineRight name) = record G { rights = G.rights ++ name ∷ [] }
 
 abbrev pub refusal : Graph → Change → Option Refusal
 refusal G change = first_of (checks G change)

@@ -1,17 +1,24 @@
 -- Well formed: what every reachable graph keeps. Source: the standard's constraints on assignments (of certain kinds,
 -- acyclic, each element leads to a policy class); names, limits and the opening elements are the project's own.
-use Rattle.std.specs.Prelude.{◌≡◌, ◌<◌, ◌^◌, ℕ, ◌+◌, ◌&&◌, true, false, ◌≤◌, List, [], ◌∷◌, length, IsSome, Some, None}
+use Rattle.std.specs.Prelude.{◌≡◌, ◌<◌, ◌^◌, ◌-◌, ℕ, ◌+◌, ◌&&◌, true, false, ◌≤◌, List, [], ◌∷◌, length, map, take, bytes_eq, IsSome, Some, None}
 use Rattle.std.specs.List.{list_any}
 use Rattle.pm_model.specs.Containment.{contained, Leads}
 use Rattle.pm_model.specs.RightSet.{opening_rights}
 use Rattle.pm_model.specs.declared.rights.Association.{Association}
-use Rattle.pm_model.specs.State.{is_class, Graph, element_at, is_named, opening_elements, opening_assigned}
+use Rattle.pm_model.specs.State.{is_class, Graph, element_at, is_named, root, opening_elements, opening_assigned}
+use Rattle.pm_model.specs.Sessions.{Procs, session, process, session_at, process_at}
+use Rattle.pm_model.specs.declared.sessions.Session.{Session}
+use Rattle.pm_model.specs.declared.sessions.Process.{Process}
 use Rattle.pm_model.specs.Effect.{both, may_assign, is_pair, may_associate, joins}
 use Rattle.pm_model.specs.Resolve.{unused}
 use Rattle.pm_model.specs.declared.elements.Kind.TheVariants.{Pc}
 use Rattle.pm_model.specs.declared.elements.Element.{Element}
 use Rattle.pm_model.specs.declared.requests.Change.{Change}
-use Rattle.pm_model.specs.declared.requests.Change.TheVariants.{Create, Assign, Deassign, Associate, Dissociate}
+use Rattle.pm_model.specs.declared.requests.Change.TheVariants.{Create, Delete, Assign, Deassign, Associate, Dissociate, OpenSession, CloseSession, StartProcess, EndProcess, Prohibit, Lift, DefineRight}
+use Rattle.pm_model.specs.Prohibitions.{is_called, has_empty_range}
+use Rattle.pm_model.specs.declared.prohibitions.Prohibition.{Prohibition}
+use Rattle.pm_model.specs.declared.prohibitions.Subject.{Subject}
+use Rattle.pm_model.specs.declared.prohibitions.Subject.TheVariants as subject
 
 -- the fact holds of each item
 abbrev pub Each : {X : Type 0} → (X → Type 0) → List X → Type 0
@@ -81,15 +88,74 @@ AreByAttribute n [] = Unit {0}
 AreByAttribute n (a ∷ rest) = (n ≤ a.ua) × AreByAttribute a.ua rest
 
 -- each right of the set has a name
-abbrev pub HasNamedRights : Association → Type 0
-HasNamedRights a = a.rights < 2 ^ length opening_rights
+abbrev pub AreNamed : List (List ℕ) → ℕ → Type 0
+AreNamed rights set = set < 2 ^ length rights
 
-pub record AreAssociations (es : List Element) (associations : List Association) : Type 0 where
+pub record AreAssociations (es : List Element) (rights : List (List ℕ)) (associations : List Association) : Type 0 where
   pub kinds : Each (JoinsAttributes es) associations
   pub once : JoinOnce associations
   pub ordered : AreByAttribute 0 associations
-  pub rights : Each HasNamedRights associations
+  pub named : Each (λ (a : Association). AreNamed rights a.rights) associations
   pub few : length associations ≤ 65536
+
+-- ---- sessions and processes
+
+-- the numbers rise, the first is at least `low`, and all are below `high`
+abbrev pub RiseBelow : ℕ → List ℕ → ℕ → Type 0
+RiseBelow low [] high = low ≤ high
+RiseBelow low (n ∷ ns) high = (low ≤ n) × RiseBelow (n + 1) ns high
+
+-- numbers rise and were all given before the next one
+pub record AreNumbered (P : Procs) : Type 0 where
+  pub sessions : RiseBelow 0 (map (λ (s : Session). s.number) P.sessions) P.next_session
+  pub processes : RiseBelow 0 (map (λ (p : Process). p.number) P.processes) P.next_process
+
+pub record AreProcs (es : List Element) (P : Procs) : Type 0 where
+  pub numbered : AreNumbered P
+  pub users : Each (λ (s : Session). IsLive es s.user) P.sessions
+  pub in_sessions : Each (λ (p : Process). IsSome (session_at P p.session)) P.processes
+  pub opening_session : session_at P 0 ≡ Some (session 0 root)
+  pub opening_process : process_at P 0 ≡ Some (process 0 0)
+  pub few_sessions : length P.sessions ≤ 4096
+  pub few_processes : length P.processes ≤ 16384
+
+-- ---- prohibitions
+
+-- no two have one name
+abbrev pub AreOnceCalled : List Prohibition → Type 0
+AreOnceCalled [] = Unit {0}
+AreOnceCalled (p ∷ ps) = (list_any (is_called p.name) ps ≡ false) × AreOnceCalled ps
+
+-- the subject is live
+abbrev pub IsSubjectLive : List Element → Procs → Subject ℕ ℕ → Type 0
+IsSubjectLive es P (subject.User n) = IsLive es n
+IsSubjectLive es P (subject.Ua n) = IsLive es n
+IsSubjectLive es P (subject.Process n) = IsSome (process_at P n)
+
+-- what the prohibition names is live, each of its rights has a name, and its sets aren't both empty
+pub record IsProhibition (es : List Element) (P : Procs) (rights : List (List ℕ)) (p : Prohibition) : Type 0 where
+  pub subject : IsSubjectLive es P p.subject
+  pub inc : Each (IsLive es) p.inc
+  pub exc : Each (IsLive es) p.exc
+  pub named : AreNamed rights p.rights
+  pub ranged : has_empty_range p ≡ false
+
+pub record AreProhibitions (es : List Element) (P : Procs) (rights : List (List ℕ)) (ps : List Prohibition) : Type 0 where
+  pub once : AreOnceCalled ps
+  pub each : Each (IsProhibition es P rights) ps
+  pub few : length ps ≤ 4096
+
+-- ---- rights
+
+-- no name stands twice
+abbrev pub NameOnce : List (List ℕ) → Type 0
+NameOnce [] = Unit {0}
+NameOnce (n ∷ ns) = (list_any (bytes_eq n) ns ≡ false) × NameOnce ns
+
+pub record AreRights (rights : List (List ℕ)) : Type 0 where
+  pub opening : take 17 rights ≡ opening_rights
+  pub once : NameOnce rights
+  pub few : length rights ≤ 64
 
 -- ---- the opening's
 
@@ -108,14 +174,31 @@ pub record HasOpening (es : List Element) (pairs : List (ℕ × ℕ)) : Type 0 w
 pub record IsWellFormed (G : Graph) : Type 0 where
   pub elements : AreElements G.elements
   pub assigned : AreAssigned G.elements G.assigned
-  pub associations : AreAssociations G.elements G.associations
+  pub associations : AreAssociations G.elements G.rights G.associations
+  pub prohibitions : AreProhibitions G.elements G.procs G.rights G.prohibitions
+  pub rights : AreRights G.rights
+  pub procs : AreProcs G.elements G.procs
   pub opening : HasOpening G.elements G.assigned
 
--- what the change names is live, and what it makes has the next number
+-- numbers of sessions and processes are of 32 bits
+abbrev pub HasNext : ℕ → Type 0
+HasNext next = next < 2 ^ 32 - 1
+
+-- what the change names is live, what it makes has the next number, and there is a next number for a new session or
+-- process; of a session or process that is named the preconditions say whether it is live
 abbrev pub IsNamed : Graph → Change → Type 0
 IsNamed G (Create id kind name None) = (id ≡ unused G.elements) × (kind ≡ Pc)
 IsNamed G (Create id kind name (Some into)) = (id ≡ unused G.elements) × IsLive G.elements into
+IsNamed G (Delete id) = IsLive G.elements id
 IsNamed G (Assign x y) = IsLive G.elements x × IsLive G.elements y
 IsNamed G (Deassign x y) = IsLive G.elements x × IsLive G.elements y
-IsNamed G (Associate u r t) = IsLive G.elements u × IsLive G.elements t × (r < 2 ^ length opening_rights)
+IsNamed G (Associate u r t) = IsLive G.elements u × IsLive G.elements t × AreNamed G.rights r
 IsNamed G (Dissociate u t) = IsLive G.elements u × IsLive G.elements t
+IsNamed G (OpenSession u) = IsLive G.elements u × HasNext G.procs.next_session
+IsNamed G (CloseSession n) = Unit {0}
+IsNamed G (StartProcess n) = HasNext G.procs.next_process
+IsNamed G (EndProcess n) = Unit {0}
+IsNamed G (Prohibit p) =
+    IsSubjectLive G.elements G.procs p.subject × Each (IsLive G.elements) p.inc × Each (IsLive G.elements) p.exc × AreNamed G.rights p.rights
+IsNamed G (Lift i) = i < length G.prohibitions
+IsNamed G (DefineRight name) = Unit {0}

@@ -1,7 +1,7 @@
 -- Which replies can be told: those whose elements have names. The project's own.
 use Rattle.std.specs.Prelude.{ℕ, Bool, IsTrue}
 use Rattle.pm_model.specs.declared.replies.Reason.{Reason}
-use Rattle.pm_model.specs.declared.replies.Reason.TheVariants.{Class}
+use Rattle.pm_model.specs.declared.replies.Reason.TheVariants.{Class, Prohibition}
 use Rattle.pm_model.specs.declared.replies.Refusal.{Refusal}
 use Rattle.pm_model.specs.declared.replies.Refusal.TheVariants.{Denied}
 use Rattle.pm_model.specs.declared.replies.Reply.{Reply}
@@ -9,6 +9,7 @@ use Rattle.pm_model.specs.declared.replies.Reply.TheVariants.{Refused}
 
 abbrev pub IsReasonNameable : (ℕ → Bool) → Reason → Type 0
 IsReasonNameable named (Class pc) = IsTrue (named pc)
+IsReasonNameable named (Prohibition name) = Unit {0}
 
 abbrev pub IsRefusalNameable : (ℕ → Bool) → Refusal → Type 0
 IsRefusalNameable named (Denied right target reason) = IsTrue (named target) × IsReasonNameable named reason

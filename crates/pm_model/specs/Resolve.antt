@@ -1,6 +1,7 @@
--- A command's names as numbers, in the order of its fields: the first name that no live element has is told. The
+-- A command's names as numbers, in the order of its fields: the first name or number that is unknown is told. The
 -- project's own. One clause for each command.
 use Rattle.std.specs.Prelude.{ℕ, ◌+◌, ◌==◌, List, [], ◌∷◌, Option, None, Some, if◌then◌else◌, Result, Ok, Err}
+use Rattle.std.specs.List.{list_any}
 use Rattle.pm_model.specs.Results.{and_then}
 use Rattle.pm_model.specs.State.{Graph, number_named}
 use Rattle.pm_model.specs.declared.elements.Element.{Element}
@@ -8,10 +9,16 @@ use Rattle.pm_model.specs.declared.elements.Kind.TheVariants.{Pc}
 use Rattle.pm_model.specs.declared.requests.Command.{Command}
 use Rattle.pm_model.specs.declared.requests.Command.TheVariants as command
 use Rattle.pm_model.specs.declared.requests.Change.{Change}
-use Rattle.pm_model.specs.declared.requests.Change.TheVariants.{Create, Assign, Deassign, Associate, Dissociate}
-use Rattle.pm_model.specs.RightSet.{right_named, with_right}
+use Rattle.pm_model.specs.declared.requests.Change.TheVariants.{Create, Delete, Assign, Deassign, Associate, Dissociate, Prohibit, Lift, DefineRight}
+use Rattle.pm_model.specs.RightSet.{bit_named, with_right}
+use Rattle.pm_model.specs.Sessions.{is_process}
+use Rattle.pm_model.specs.Prohibitions.{place_called}
+use Rattle.pm_model.specs.declared.prohibitions.Prohibition.{Prohibition}
+use Rattle.pm_model.specs.declared.prohibitions.Mode.{Mode}
+use Rattle.pm_model.specs.declared.prohibitions.Subject.{Subject}
+use Rattle.pm_model.specs.declared.prohibitions.Subject.TheVariants.{User, Ua, Process}
 use Rattle.pm_model.specs.declared.replies.Refusal.{Refusal}
-use Rattle.pm_model.specs.declared.replies.Refusal.TheVariants.{UnknownName}
+use Rattle.pm_model.specs.declared.replies.Refusal.TheVariants.{UnknownName, UnknownProcess}
 
 -- the least number from n on that no element of this rising list has
 abbrev pub unused_from : ℕ → List Element → ℕ
@@ -33,16 +40,41 @@ look_up G name = known name (number_named G.elements name)
 abbrev pub look_up_both : Graph → List ℕ → List ℕ → Result (ℕ × ℕ) Refusal
 look_up_both G first second = and_then (look_up G first) (λ x. and_then (look_up G second) (λ y. Ok (x, y)))
 
+-- a list of names, in its order
+abbrev pub look_up_all : Graph → List (List ℕ) → Result (List ℕ) Refusal
+look_up_all G [] = Ok []
+look_up_all G (n ∷ ns) = and_then (look_up G n) (λ x. and_then (look_up_all G ns) (λ xs. Ok (x ∷ xs)))
+
 -- the set of the rights of these names
-abbrev pub look_up_rights : List (List ℕ) → Result ℕ Refusal
-look_up_rights [] = Ok 0
-look_up_rights (n ∷ ns) = and_then (known n (right_named n)) (λ bit. and_then (look_up_rights ns) (λ rights. Ok (with_right bit rights)))
+abbrev pub look_up_rights : Graph → List (List ℕ) → Result ℕ Refusal
+look_up_rights G [] = Ok 0
+look_up_rights G (n ∷ ns) =
+    and_then (known n (bit_named G.rights n)) (λ bit. and_then (look_up_rights G ns) (λ rights. Ok (with_right bit rights)))
+
+-- the process, where it is live
+abbrev pub look_up_process : Graph → ℕ → Result ℕ Refusal
+look_up_process G n = if list_any (is_process n) G.procs.processes then Ok n else Err UnknownProcess
+
+abbrev pub look_up_subject : Graph → Subject (List ℕ) ℕ → Result (Subject ℕ ℕ) Refusal
+look_up_subject G (User name) = and_then (look_up G name) (λ n. Ok (User n))
+look_up_subject G (Ua name) = and_then (look_up G name) (λ n. Ok (Ua n))
+look_up_subject G (Process process) = and_then (look_up_process G process) (λ n. Ok (Process n))
+
+abbrev pub prohibition : List ℕ → Subject ℕ ℕ → ℕ → List ℕ → List ℕ → Mode → Prohibition
+prohibition name subject rights inc exc mode =
+    record { name = name; subject = subject; rights = rights; inc = inc; exc = exc; mode = mode }
 
 abbrev pub resolve : Graph → Command → Result Change Refusal
 resolve G (command.CreatePc name) = Ok (Create (unused G.elements) Pc name None)
 resolve G (command.Create kind name into) = and_then (look_up G into) (λ c. Ok (Create (unused G.elements) kind name (Some c)))
+resolve G (command.Delete name) = and_then (look_up G name) (λ n. Ok (Delete n))
 resolve G (command.Assign from to) = and_then (look_up_both G from to) (λ p. Ok (Assign p.0 p.1))
 resolve G (command.Deassign from to) = and_then (look_up_both G from to) (λ p. Ok (Deassign p.0 p.1))
 resolve G (command.Associate ua rights at) =
-    and_then (look_up G ua) (λ u. and_then (look_up_rights rights) (λ r. and_then (look_up G at) (λ t. Ok (Associate u r t))))
+    and_then (look_up G ua) (λ u. and_then (look_up_rights G rights) (λ r. and_then (look_up G at) (λ t. Ok (Associate u r t))))
 resolve G (command.Dissociate ua at) = and_then (look_up_both G ua at) (λ p. Ok (Dissociate p.0 p.1))
+resolve G (command.Prohibit name subject rights inc exc mode) =
+    and_then (look_up_subject G subject) (λ s. and_then (look_up_rights G rights) (λ r.
+    and_then (look_up_all G inc) (λ i. and_then (look_up_all G exc) (λ e. Ok (Prohibit (prohibition name s r i e mode))))))
+resolve G (command.Lift name) = and_then (known name (place_called G.prohibitions name)) (λ i. Ok (Lift i))
+resolve G (command.DefineRight name) = Ok (DefineRight name)

@@ -1,8 +1,11 @@
 -- Rights. Source: the standard's access rights and administrative access rights; their names, their bits and a set as
 -- a number are the project's own.
-use Rattle.std.specs.Prelude.{ℕ, Bool, ◌==◌, ◌||◌, ◌^◌, nat_lt, nat_le, List, [], ◌∷◌, Option, codes, bytes_eq, bit_or}
-use Rattle.std.specs.List.{position_from}
+use Rattle.std.specs.Prelude.{ℕ, zero, suc, ◌+◌, if◌then◌else◌, Bool, ◌==◌, ◌||◌, ◌^◌, nat_lt, nat_le, List, [], ◌∷◌, length, Option, codes, bytes_eq, bit_or}
+use Rattle.std.specs.List.{list_any, position_from}
 use Rattle.std.specs.Int.{bit_at}
+use Rattle.pm_model.specs.declared.replies.Refusal.{Refusal}
+use Rattle.pm_model.specs.declared.replies.Refusal.TheVariants.{NameTaken, Full}
+use Rattle.pm_model.specs.declared.replies.Table.TheVariants as table
 
 -- a set of rights is a number: the bit of a right is set where the right is in the set
 abbrev pub has_right : ℕ → ℕ → Bool
@@ -12,7 +15,12 @@ has_right rights bit = bit_at rights bit == 1
 abbrev pub with_right : ℕ → ℕ → ℕ
 with_right bit rights = bit_or (2 ^ bit) rights
 
--- the names by bit: two access rights, then the administrative ones
+-- the set of the rights below n that pass the test
+unfoldable pub from_bits : (ℕ → Bool) → ℕ → ℕ
+from_bits passes zero = 0
+from_bits passes (suc n) = from_bits passes n + (if passes n then 2 ^ n else 0)
+
+-- the names by bit at the start: two access rights, then the administrative ones
 unfoldable pub opening_rights : List (List ℕ)
 opening_rights =
     codes "read" ∷ codes "write"
@@ -21,9 +29,28 @@ opening_rights =
     ∷ codes "associate" ∷ codes "associate_to" ∷ codes "prohibit" ∷ codes "prohibit_to"
     ∷ codes "oblige" ∷ codes "review" ∷ []
 
--- the right of a name
-abbrev pub right_named : List ℕ → Option ℕ
-right_named name = position_from (bytes_eq name) 0 opening_rights
+abbrev pub max_rights : ℕ
+max_rights = 64
+
+-- the texts that stand under `cmd`: a right that is defined may have none of them for its name
+unfoldable pub command_words : List (List ℕ)
+command_words =
+    codes "version" ∷ codes "open_session" ∷ codes "close_session" ∷ codes "start_process" ∷ codes "end_process"
+    ∷ codes "create_pc" ∷ codes "create_user" ∷ codes "create_ua" ∷ codes "create_oa" ∷ codes "create_object"
+    ∷ codes "delete" ∷ codes "assign" ∷ codes "deassign" ∷ codes "associate" ∷ codes "dissociate"
+    ∷ codes "prohibit" ∷ codes "lift" ∷ codes "define_right" ∷ codes "oblige" ∷ codes "withdraw"
+    ∷ codes "keep" ∷ codes "drop_review" ∷ codes "access"
+    ∷ codes "caps" ∷ codes "entries" ∷ codes "kept" ∷ codes "changes" ∷ codes "survey" ∷ []
+
+-- preconditions of a new right in order; the names of rights stand by bit
+abbrev pub define_checks : List (List ℕ) → List ℕ → List (Bool × Refusal)
+define_checks rights name =
+    (list_any (bytes_eq name) rights || list_any (bytes_eq name) command_words, NameTaken)
+    ∷ (nat_le max_rights (length rights), Full table.Rights) ∷ []
+
+-- the bit of the right of a name, where the names of rights are these
+abbrev pub bit_named : List (List ℕ) → List ℕ → Option ℕ
+bit_named rights name = position_from (bytes_eq name) 0 rights
 
 -- a right that an access may ask for, and no administrative one
 abbrev pub is_access_right : ℕ → Bool

@@ -5,6 +5,9 @@ use Rattle.pm_model.specs.declared.elements.Kind.{Kind}
 use Rattle.pm_model.specs.declared.elements.Kind.TheVariants.{User, Ua, Pc}
 use Rattle.pm_model.specs.declared.elements.Element.{Element}
 use Rattle.pm_model.specs.declared.rights.Association.{Association}
+use Rattle.pm_model.specs.declared.prohibitions.Prohibition.{Prohibition}
+use Rattle.pm_model.specs.RightSet.{opening_rights}
+use Rattle.pm_model.specs.Sessions.{Procs, opening_procs}
 
 -- what commands change
 pub record Graph : Type 0 where
@@ -14,6 +17,12 @@ pub record Graph : Type 0 where
   pub assigned : List (ℕ × ℕ)
   -- the associations, by rising user attribute, those of one in order of creation
   pub associations : List Association
+  -- the prohibitions, in order of creation
+  pub prohibitions : List Prohibition
+  -- the names of the rights, by bit
+  pub rights : List (List ℕ)
+  -- the sessions and their processes
+  pub procs : Procs
 
 pub record State : Type 0 where
   pub graph : Graph
@@ -66,6 +75,10 @@ opening_elements = element 0 Pc (codes "pm") ∷ element 1 Ua (codes "pm_admins"
 abbrev pub opening_assigned : List (ℕ × ℕ)
 opening_assigned = (1, 0) ∷ (2, 1) ∷ []
 
--- the state at the start: the class `pm`, its administrators, and the user `root` among them
+abbrev pub opening_graph : Graph
+opening_graph =
+    record { elements = opening_elements; assigned = opening_assigned; associations = []; prohibitions = []; rights = opening_rights; procs = opening_procs root }
+
+-- the state at the start: the class `pm`, its administrators, the user `root` among them, and a session and a process of it
 abbrev pub opening : State
-opening = record { graph = record { elements = opening_elements; assigned = opening_assigned; associations = [] }; version = 0 }
+opening = record { graph = opening_graph; version = 0 }

@@ -1,5 +1,5 @@
 -- The line of a reply: an object with these members, a row for each reply. The project's own.
-use Rattle.std.specs.Prelude.{ℕ, List, [], ◌∷◌, ◌++◌, Option}
+use Rattle.std.specs.Prelude.{ℕ, List, [], ◌∷◌, ◌++◌, Option, None, Some}
 use Rattle.serde_json.specs.Data.{Data}
 use Rattle.pm_model.specs.Object.{line_of, whole, whole_if, texted}
 use Rattle.pm_model.specs.Words.{key_text, word_text}
@@ -14,30 +14,43 @@ use Rattle.pm_model.specs.declared.lines.Field.TheVariants as field
 use Rattle.pm_model.specs.declared.replies.Refusal.{Refusal}
 use Rattle.pm_model.specs.declared.replies.Refusal.TheVariants as refusal
 use Rattle.pm_model.specs.declared.replies.Table.{Table}
-use Rattle.pm_model.specs.declared.replies.Table.TheVariants.{Elements, Assignments, Associations, History}
+use Rattle.pm_model.specs.declared.replies.Table.TheVariants.{Elements, Assignments, Associations, Prohibitions, Sessions, Processes, Rights, History}
 use Rattle.pm_model.specs.declared.replies.Reply.{Reply}
 use Rattle.pm_model.specs.declared.replies.Reply.TheVariants.{Done, Granted, Bad, Ahead, Refused}
 use Rattle.pm_model.specs.declared.replies.Reason.{Reason}
-use Rattle.pm_model.specs.declared.replies.Reason.TheVariants.{Class}
+use Rattle.pm_model.specs.declared.replies.Reason.TheVariants.{Class, Prohibition}
+use Rattle.pm_model.specs.declared.replies.Shown.{Shown}
+use Rattle.pm_model.specs.declared.replies.Shown.TheVariants as shown
 
 abbrev pub field_word : Field → Word
 field_word field.Id = word.Id
 field_word field.After = word.After
 field_word field.Proc = word.Proc
+field_word field.Process = word.Process
+field_word field.Session = word.Session
 field_word field.Name = word.Name
 field_word field.Into = word.Into
 field_word field.From = word.From
 field_word field.To = word.To
 field_word field.Ua = word.Ua
 field_word field.At = word.At
+field_word field.User = word.User
 field_word field.Target = word.Target
 field_word field.Right = word.Right
 field_word field.Rights = word.Rights
+field_word field.Inc = word.Inc
+field_word field.Exc = word.Exc
+field_word field.Mode = word.Mode
+field_word field.Subject = word.Subject
 
 abbrev pub table_word : Table → Word
 table_word Elements = word.Elements
 table_word Assignments = word.Assignments
 table_word Associations = word.Associations
+table_word Prohibitions = word.Prohibitions
+table_word Sessions = word.Sessions
+table_word Processes = word.Processes
+table_word Rights = word.Rights
 table_word History = word.History
 
 -- a fixed text
@@ -57,9 +70,25 @@ bad_front h NotRequest = no_front h word.NotRequest
 bad_front h UnknownCommand = no_front h word.UnknownCommand
 bad_front h (BadField f) = (key_text key.Field, said (field_word f)) ∷ no_front h word.BadField
 
--- a request that is accepted or granted
+-- a request that is granted
 abbrev pub ok_front : Head → Word → List (List ℕ × Option Data)
 ok_front h what = (key_text key.Id, whole_if h.id) ∷ (key_text key.Ok, said what) ∷ []
+
+abbrev pub process_shown : Shown → Option ℕ
+process_shown (shown.Process n) = Some n
+process_shown _ = None
+
+abbrev pub session_shown : Shown → Option ℕ
+session_shown (shown.Session n) = Some n
+session_shown _ = None
+
+-- what a request that is accepted has made
+abbrev pub made_front : Shown → List (List ℕ × Option Data)
+made_front made = (key_text key.Process, whole_if (process_shown made)) ∷ (key_text key.Session, whole_if (session_shown made)) ∷ []
+
+-- a request that is accepted
+abbrev pub done_front : Head → Shown → List (List ℕ × Option Data)
+done_front h made = (key_text key.Id, whole_if h.id) ∷ (key_text key.Ok, said word.Done) ∷ made_front made
 
 abbrev pub unknown_front : Head → List ℕ → List (List ℕ × Option Data)
 unknown_front h name = (key_text key.Id, whole_if h.id) ∷ (key_text key.Name, texted name) ∷ (key_text key.No, said word.UnknownName) ∷ []
@@ -70,18 +99,26 @@ full_front h table = (key_text key.Id, whole_if h.id) ∷ (key_text key.No, said
 -- the class of a denial, where it is one
 abbrev pub class_of : (ℕ → List ℕ) → Reason → Option Data
 class_of names (Class pc) = texted (names pc)
+class_of names (Prohibition name) = None
 
--- what is denied
-abbrev pub capability_front : List ℕ → List ℕ → List (List ℕ × Option Data)
-capability_front right target = (key_text key.Right, texted right) ∷ (key_text key.Target, texted target) ∷ []
+-- the prohibition of a denial, where it is one
+abbrev pub prohibition_of : Reason → Option Data
+prohibition_of (Class pc) = None
+prohibition_of (Prohibition name) = texted name
+
+-- what is denied, behind the prohibition that denies it
+abbrev pub capability_front : Reason → List ℕ → List ℕ → List (List ℕ × Option Data)
+capability_front reason right target =
+    (key_text key.Prohibition, prohibition_of reason) ∷ (key_text key.Right, texted right) ∷ (key_text key.Target, texted target) ∷ []
 
 abbrev pub denied_front : Head → (ℕ → List ℕ) → List ℕ → ℕ → Reason → List (List ℕ × Option Data)
 denied_front h names right target reason =
     (key_text key.Class, class_of names reason) ∷ (key_text key.Id, whole_if h.id) ∷ (key_text key.No, said word.Denied)
-    ∷ capability_front right (names target)
+    ∷ capability_front reason right (names target)
 
 abbrev pub refusal_front : Head → (ℕ → List ℕ) → Refusal → List (List ℕ × Option Data)
 refusal_front h names refusal.UnknownProcess = no_front h word.UnknownProcess
+refusal_front h names refusal.UnknownSession = no_front h word.UnknownSession
 refusal_front h names (refusal.UnknownName name) = unknown_front h name
 refusal_front h names (refusal.Denied right target reason) = denied_front h names right target reason
 refusal_front h names refusal.BadKinds = no_front h word.BadKinds
@@ -90,12 +127,14 @@ refusal_front h names refusal.Already = no_front h word.Already
 refusal_front h names refusal.Absent = no_front h word.Absent
 refusal_front h names refusal.Cycle = no_front h word.Cycle
 refusal_front h names refusal.Occupied = no_front h word.Occupied
+refusal_front h names refusal.InUse = no_front h word.InUse
 refusal_front h names refusal.LastContainer = no_front h word.LastContainer
 refusal_front h names refusal.Builtin = no_front h word.Builtin
+refusal_front h names refusal.EmptyRange = no_front h word.EmptyRange
 refusal_front h names (refusal.Full table) = full_front h table
 
 abbrev pub front : Head → (ℕ → List ℕ) → Reply → List (List ℕ × Option Data)
-front h names Done = ok_front h word.Done
+front h names (Done made) = done_front h made
 front h names Granted = ok_front h word.Granted
 front h names (Bad bad) = bad_front h bad
 front h names Ahead = no_front h word.Ahead

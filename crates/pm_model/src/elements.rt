@@ -1,3 +1,5 @@
+//! What a policy is made of: elements, with their numbers, kinds and names.
+
 ghost use Rattle.std.specs.Prelude.{◌≡◌};
 
 use crate::names::Name;

@@ -1,3 +1,5 @@
+//! That the test of containment says what paths say.
+
 ghost use Rattle.std.specs.Prelude.{ℕ, List, IsTrue, ◌↔◌};
 ghost use Rattle.pm_model.specs.Containment.{contained, IsContained};
 

@@ -1,18 +1,27 @@
+//! What a line is read as before it is a request, and what may be wrong with it.
+
 /// A field of a request's line.
 #[derive(Clone, Copy, Debug, PartialEq, Eq)]
 pub enum Field {
     Id,
     After,
     Proc,
+    Process,
+    Session,
     Name,
     Into,
     From,
     To,
     Ua,
     At,
+    User,
     Target,
     Right,
     Rights,
+    Inc,
+    Exc,
+    Mode,
+    Subject,
 }
 
 /// Why a line is no request.

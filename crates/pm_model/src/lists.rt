@@ -1,4 +1,7 @@
-ghost use Rattle.std.specs.Prelude.{◌≡◌, [], ◌∷◌, ◌++◌, ◌<◌, ◌≤◌, length, insert, OnOk, OnErr, IfOk, slice_get};
+//! A list that hides its room from contracts.
+
+ghost use Rattle.std.specs.Prelude.{◌≡◌, [], ◌∷◌, ◌++◌, ◌<◌, ◌≤◌, length, insert, OnOk, OnErr, IfOk, slice_get, Some};
+ghost use Rattle.std.specs.List.{remove};
 ghost use Rattle.std.specs.Option.{option_copied};
 ghost use Rattle.std.specs.Fn.{CalledAt};
 ghost use Rattle.std.specs.List.Retain.{IsFiltered};
@@ -55,6 +58,11 @@ impl<T> ItemList<T> {
         &self.items[i]
     }
 
+    /// Where it takes its memory from.
+    pub fn allocator(&self) -> Global {
+        *self.items.allocator()
+    }
+
     /// The items as a slice.
     pub fn as_slice(&self) -> &[T]
         ensures { result.now ≡ self.now }
@@ -90,6 +98,17 @@ impl<T> ItemList<T> {
         }
     }
 
+    /// Takes the item at a place that there is out of the list, and answers it.
+    pub fn remove(&mut self, i: usize) -> T
+    where
+        T: Drop,
+        requires { i < length self.old }
+        ensures item { slice_get self.old i ≡ Some result }
+        ensures rest { self.new ≡ remove self.old i }
+    {
+        self.items.remove(i)
+    }
+
     /// Keeps the items that pass the test, in their order.
     pub fn retain<F: FnMut(&T) -> bool>(&mut self, f: F)
     where
@@ -116,6 +135,9 @@ impl<T: Copy> ItemList<T> {
 
 /// A list of names.
 pub type NameList = ItemList<Name>;
+
+/// A list of elements.
+pub type PlaceList = ItemList<ElementId>;
 
 /// The live policy classes, by rising number.
 pub type ClassList = ItemList<ElementId>;

@@ -1,3 +1,5 @@
+//! The error of a call that found no memory.
+
 use std::alloc::{AllocError, AllocFailed};
 
 /// There was no memory. Whatever the call was to change is as before.

@@ -1,3 +1,5 @@
+//! Names of elements, rights and prohibitions: 1 to 64 bytes of a small alphabet.
+
 ghost use Rattle.std.specs.Prelude.{◌≡◌, ◌↔◌, ◌≤◌, IsTrue, IsSome, IfSome, length, replicate, ◌-◌, ◌++◌, ◌&&◌, nat_lt, nat_le};
 ghost use Rattle.std.specs.List.{list_all};
 ghost use Rattle.pm_model.specs.Name.{is_name, is_name_byte};

@@ -1,9 +1,13 @@
-ghost use Rattle.std.specs.Prelude.{◌≡◌, ℕ, Bool, ◌<◌, List, length, slice_get, Some, IsTrue};
+//! What a decision asks of a state, as traits.
+
+ghost use Rattle.std.specs.Prelude.{◌≡◌, ℕ, Bool, ◌<◌, ◌≤◌, List, length, slice_get, Some, IsTrue};
 ghost use Rattle.pm_model.specs.Containment.{Relation, containers};
 ghost use Rattle.pm_model.specs.declared.rights.Grantee.{Grantee};
+ghost use Rattle.pm_model.specs.declared.prohibitions.Prohibition.{Prohibition};
 
 use crate::elements::ElementId;
 use crate::names::Name;
+use crate::prohibitions::Prohibition;
 use crate::rights::Grantee;
 
 /// Containment, however it is kept. A question takes no memory.
@@ -54,6 +58,22 @@ pub trait Grants {
     fn at(&self, i: usize) -> &Grantee
         requires { i < length (grantees self.now) }
         ensures { slice_get (grantees self.now) i ≡ Some result.now };
+}
+
+/// The prohibitions, in order of creation: at most 4,096.
+pub trait Bars {
+    /// The prohibitions.
+    ghost prohibitions: { Self → List Prohibition };
+
+    /// How many there are.
+    fn len(&self) -> usize
+        ensures len { result ≡ length (prohibitions self.now) }
+        ensures most { result ≤ 4096 };
+
+    /// The prohibition at a place below the number.
+    fn at(&self, i: usize) -> &Prohibition
+        requires { i < length (prohibitions self.now) }
+        ensures { slice_get (prohibitions self.now) i ≡ Some result.now };
 }
 
 /// The names of live elements.

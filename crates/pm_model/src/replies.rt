@@ -1,3 +1,5 @@
+//! What the machine answers, and why it refuses.
+
 use crate::elements::ElementId;
 use crate::lines::BadLine;
 use crate::names::Name;
@@ -11,15 +13,26 @@ pub enum Table {
     Assignments,
     /// 65,536 associations.
     Associations,
+    /// 4,096 prohibitions.
+    Prohibitions,
+    /// 4,096 live sessions.
+    Sessions,
+    /// 16,384 live processes.
+    Processes,
+    /// 64 rights with a name.
+    Rights,
     /// 262,144 accepted entries.
     History,
 }
 
 /// Why a capability is denied.
-#[derive(Clone, Copy, Debug, PartialEq, Eq)]
+#[derive(Clone, Copy, PartialEq, Eq)]
 pub enum Reason {
     /// The first class that contains the target and in which no association gives the right.
     Class(ElementId),
+    /// Where there is no such class: the first prohibition, in order of creation, that applies to the
+    /// user or the process and covers the right on the target.
+    Prohibition(Name),
 }
 
 /// Why a request is refused. The machine's state stays.
@@ -27,7 +40,9 @@ pub enum Reason {
 pub enum Refusal {
     /// No live process has the number.
     UnknownProcess,
-    /// No live element, or no right that is meant there, has the name.
+    /// No live session has the number.
+    UnknownSession,
+    /// No live element, no right that is meant there, or no prohibition has the name.
     UnknownName {
         name: Name,
     },
@@ -39,7 +54,7 @@ pub enum Refusal {
     },
     /// The kinds of the elements don't allow it.
     BadKinds,
-    /// A live element has the name.
+    /// A live element has the name; or a prohibition or a right has it, where one is to be made.
     NameTaken,
     /// The assignment, or an association of the pair, stands.
     Already,
@@ -49,10 +64,14 @@ pub enum Refusal {
     Cycle,
     /// Something is assigned to the element.
     Occupied,
+    /// An association, a prohibition or a session names the element.
+    InUse,
     /// It is the element's only container.
     LastContainer,
     /// It stands from the opening on, for ever.
     Builtin,
+    /// Both sets of the prohibition are empty.
+    EmptyRange,
     /// The count stands at its limit.
     Full(Table),
 }
@@ -62,6 +81,18 @@ pub enum Refusal {
 pub enum Made {
     Nothing,
     Element(ElementId),
+    Session(u32),
+    Process(u32),
+}
+
+/// What the reply to an accepted command tells beside that.
+#[derive(Clone, Copy, Debug, PartialEq, Eq)]
+pub enum Shown {
+    Nothing,
+    /// The number of the session that was opened.
+    Session(u32),
+    /// The number of the process that was started.
+    Process(u32),
 }
 
 /// Why a change was not made.
@@ -75,7 +106,7 @@ pub enum ChangeError {
 #[derive(Drop)]
 pub enum Reply {
     /// The request is accepted, or it asked for the version alone.
-    Done,
+    Done { shown: Shown },
     /// The access is granted.
     Granted,
     /// The line is no request.

@@ -1,7 +1,10 @@
+//! What a line asks: commands by names, and changes by numbers.
+
 use crate::elements::{ElementId, Kind};
 use crate::lines::BadLine;
 use crate::lists::NameList;
 use crate::names::Name;
+use crate::prohibitions::{Mode, Prohibition, Subject};
 use crate::rights::Rights;
 
 /// An administrative command, as a line names it.
@@ -16,6 +19,10 @@ pub enum Command {
         kind: Kind,
         name: Name,
         into: Name,
+    },
+    /// Take an element away, with its assignments.
+    Delete {
+        name: Name,
     },
     /// Assign one element to another.
     Assign {
@@ -38,9 +45,26 @@ pub enum Command {
         ua: Name,
         at: Name,
     },
+    /// Deny the subject these rights on what lies in the range that the two sets and the mode make.
+    Prohibit {
+        name: Name,
+        subject: Subject<Name, u32>,
+        rights: NameList,
+        inc: NameList,
+        exc: NameList,
+        mode: Mode,
+    },
+    /// Take the prohibition of this name away.
+    Lift {
+        name: Name,
+    },
+    /// Give the next right this name. It is an access right.
+    DefineRight {
+        name: Name,
+    },
 }
 
-/// A command with its names resolved to numbers.
+/// A change of the graph: a command with its names resolved to numbers.
 #[derive(Drop)]
 pub enum Change {
     /// Make the element of this number, with its assignment to the container, where there is one.
@@ -49,6 +73,9 @@ pub enum Change {
         kind: Kind,
         name: Name,
         into: Option<ElementId>,
+    },
+    Delete {
+        id: ElementId,
     },
     Assign {
         from: ElementId,
@@ -67,6 +94,28 @@ pub enum Change {
         ua: ElementId,
         at: ElementId,
     },
+    OpenSession {
+        user: ElementId,
+    },
+    CloseSession {
+        session: u32,
+    },
+    StartProcess {
+        session: u32,
+    },
+    EndProcess {
+        process: u32,
+    },
+    Prohibit {
+        item: Prohibition,
+    },
+    /// Take the prohibition away that stands at this place, from 0, in order of creation.
+    Lift {
+        index: u32,
+    },
+    DefineRight {
+        name: Name,
+    },
 }
 
 /// What a request asks for.
@@ -74,6 +123,21 @@ pub enum Change {
 pub enum Body {
     /// The version, and nothing else.
     Version,
+    /// Open a session of the user.
+    OpenSession {
+        user: Name,
+    },
+    /// Close the session, and end its processes.
+    CloseSession {
+        session: u32,
+    },
+    /// Start a process of the session.
+    StartProcess {
+        session: u32,
+    },
+    EndProcess {
+        process: u32,
+    },
     /// An access by a process, for the user whose process it is: an access right on a target.
     Access {
         process: u32,

@@ -1,9 +1,10 @@
-ghost use Rattle.std.specs.Prelude.{◌≡◌, ◌<◌, ◌==◌, ◌^◌, bit_or, slice_get, Some, IfSome};
-ghost use Rattle.pm_model.specs.RightSet.{has_right, right_named, is_access_right, opening_rights};
+//! Sets of rights, and what gives them.
+
+ghost use Rattle.std.specs.Prelude.{◌≡◌, ◌<◌, ◌==◌, ◌^◌, bit_or};
+ghost use Rattle.pm_model.specs.RightSet.{has_right, is_access_right};
 
 use crate::elements::ElementId;
 use crate::lists::ItemList;
-use crate::names::Name;
 use std::marker::Model;
 
 /// A set of access and administrative rights, each a bit of the number that contracts see.
@@ -50,49 +51,6 @@ impl Rights {
     {
         self.0 == 0
     }
-}
-
-/// How many rights have a name.
-const NAMED: u8 = 17;
-
-/// The name of a right, by its bit: two access rights, then the administrative ones.
-#[tactic(auto, unfolding(crate::specs::RightSet::opening_rights))]
-fn name_of_right(bit: u8) -> &'static str
-    requires { bit < NAMED }
-    ensures { slice_get opening_rights bit ≡ Some result.now }
-{
-    match bit {
-        0 => "read",
-        1 => "write",
-        2 => "create_user",
-        3 => "create_ua",
-        4 => "create_oa",
-        5 => "create_object",
-        6 => "delete",
-        7 => "assign",
-        8 => "assign_to",
-        9 => "deassign",
-        10 => "deassign_from",
-        11 => "associate",
-        12 => "associate_to",
-        13 => "prohibit",
-        14 => "prohibit_to",
-        15 => "oblige",
-        _ => "review",
-    }
-}
-
-/// The right of a name; None exactly where no right has it.
-pub fn right_named(name: &Name) -> Option<u8>
-    ensures value { result ≡ right_named name.now }
-    ensures below { IfSome result (λ bit. bit < NAMED) }
-{
-    for bit in 0..NAMED {
-        if name.bytes() == name_of_right(bit).as_bytes() {
-            return Some(bit);
-        }
-    }
-    None
 }
 
 /// Whether an access may ask for the right: whether it is no administrative one.

@@ -111,14 +111,6 @@ Searching-answer {assigned} {live} {x} {marks} {queue} {end} s start y = same_te
     (λ h. let p = s.placed y h in rw p.2 at ((s.known p.0 p.1).1))
     (λ h. let p = path-from_contained assigned x y h in marked_path s x p.0 y start p.1)
 
-pub Visited-marked : (marks : List Bool) (queue : List ℕ) (end w : ℕ) → get_or marks w false ≡ true → count_set marks ≡ end →
-    Visited marks queue end w marks queue end
-Visited-marked marks queue end w is counted = record {
-  later = record { marks_long = refl; queue_long = refl; longer = omega arith; counted = counted; marks_kept = λ z h. h; queue_kept = λ k h. refl };
-  marked = is;
-  step = λ assigned live x head s lives reached. s;
-}
-
 pub Visited-new : (marks : List Bool) (queue : List ℕ) (end w : ℕ) → w < length marks → get_or marks w false ≡ false → count_set marks ≡ end →
     length queue ≡ length marks → Visited marks queue end w (set marks w true) (set queue end w) (end + 1)
 Visited-new marks queue end w below is counted as_long = record {
@@ -134,10 +126,6 @@ Visited-new marks queue end w below is counted as_long = record {
   step = λ assigned live x head s lives reached. Searching-visit w s below is lives reached;
 }
 
-pub Later-none : (marks : List Bool) (queue : List ℕ) (end : ℕ) → count_set marks ≡ end → Later marks queue end marks queue end
-Later-none marks queue end counted =
-    record { marks_long = refl; queue_long = refl; longer = omega arith; counted = counted; marks_kept = λ z h. h; queue_kept = λ k h. refl }
-
 pub Later-trans : {m : List Bool} {q : List ℕ} {e : ℕ} {m' : List Bool} {q' : List ℕ} {e' : ℕ} {m'' : List Bool} {q'' : List ℕ} {e'' : ℕ} →
     Later m q e m' q' e' → Later m' q' e' m'' q'' e'' → Later m q e m'' q'' e''
 Later-trans a b = record {
@@ -147,14 +135,6 @@ Later-trans a b = record {
   counted = b.counted;
   marks_kept = λ z h. b.marks_kept z (a.marks_kept z h);
   queue_kept = λ k h. b.queue_kept k (omega (arith, a.longer)) ∙ a.queue_kept k h;
-}
-
-pub Expanded-none : (assigned : List (ℕ × ℕ)) (live : ℕ → Bool) (z : ℕ) (marks : List Bool) (queue : List ℕ) (end : ℕ) → count_set marks ≡ end →
-    Expanded assigned live z 0 marks queue end marks queue end
-Expanded-none assigned live z marks queue end counted = record {
-  later = Later-none marks queue end counted;
-  marked = λ j h. absurd (omega arith);
-  step = λ x head s reached. s;
 }
 
 -- one more visit

@@ -1,3 +1,5 @@
+//! Searches over a few assignments, with answers worked out by hand.
+
 ghost use Rattle.std.specs.Prelude.{◌≡◌, ◌<◌, length, slice_get, Some};
 ghost use Rattle.pm_model.specs.Containment.{containers};
 

@@ -1,5 +1,6 @@
 -- Where a number stands among the classes: behind those that are not above it.
 use Rattle.std.proofs.Common.{◌≡◌, ℕ, zero, suc, ◌+◌, ◌<◌, ◌≤◌, List, [], ◌∷◌, length, insert, slice_get, Some, refl, ap, arith}
+use Rattle.std.specs.List.{remove}
 use Rattle.std.proofs.lemmas.Bool.{le-ltb, lt-ltb}
 use Rattle.std.proofs.lemmas.Option.{slice_get_within}
 use Rattle.pm_state.specs.Classes.{placed_number}
@@ -28,3 +29,10 @@ pub past-end : (n : ℕ) (ms : List ℕ) (i : ℕ) → IsPast n ms i → length 
 past-end n [] i past all = refl
 past-end n (x ∷ ms) zero past all = absurd (omega (arith, all))
 past-end n (x ∷ ms) (suc i) past all = rw (le-ltb n x past.0) (ap (λ l. x ∷ l) (past-end n ms i past.1 (omega (arith, all))))
+
+-- taking out what was put in gives the list back
+pub remove-insert : (ms : List ℕ) (i n : ℕ) → i ≤ length ms → remove (insert ms i n) i ≡ ms
+remove-insert [] zero n within = refl
+remove-insert [] (suc i) n within = absurd (omega (arith, within))
+remove-insert (m ∷ ms) zero n within = refl
+remove-insert (m ∷ ms) (suc i) n within = ap (λ l. m ∷ l) (remove-insert ms i n (omega (arith, within)))

@@ -2,5 +2,4 @@ pub mod Classes
 pub mod Kept
 pub mod KeptDraft
 pub mod KeptState
-pub mod Made
 pub mod Shown

@@ -4,4 +4,12 @@ use Rattle.pm_model.specs.Decision.{associations_of}
 use Rattle.pm_state.specs.declared.tables.Tables.{Tables}
 
 abbrev pub graph_of : Tables → Graph
-graph_of t = record { elements = t.elements.elements; assigned = t.elements.assigned; associations = associations_of t.assoc }
+graph_of t =
+    record {
+      elements = t.elements.elements;
+      assigned = t.elements.assigned;
+      associations = associations_of t.assoc;
+      prohibitions = t.deny;
+      rights = t.rights;
+      procs = t.procs;
+    }

@@ -1,9 +1,10 @@
 //! The policy classes, by rising number.
 
-ghost use Rattle.std.specs.Prelude.{◌≡◌, ◌≤◌, length, insert, OnOk, OnErr};
-ghost use Rattle.pm_state.specs.Classes.{placed_number, with_class};
+ghost use Rattle.std.specs.Prelude.{◌≡◌, ◌<◌, ◌≤◌, length, insert, OnOk, OnErr, IfOk};
+ghost use Rattle.std.specs.List.{remove};
+ghost use Rattle.pm_state.specs.Classes.{placed_number, without_number};
 
-use pm_model::{ClassList, ElementId, Kind, Memory};
+use pm_model::{ClassList, ElementId, Memory};
 
 /// The place where the number would stand: before the first higher one.
 fn place_of(classes: &ClassList, id: ElementId) -> usize
@@ -18,14 +19,22 @@ fn place_of(classes: &ClassList, id: ElementId) -> usize
     classes.len()
 }
 
-/// Puts the number of a new element at its place, where it is a policy class.
-pub(crate) fn place(classes: &mut ClassList, kind: Kind, id: ElementId) -> Result<(), Memory>
-    ensures ok { OnOk result (classes.new ≡ with_class kind id classes.old) }
+/// Puts the number of a new policy class at its place, and tells the place.
+pub(crate) fn place(classes: &mut ClassList, id: ElementId) -> Result<usize, Memory>
+    ensures ok { OnOk result (classes.new ≡ placed_number id classes.old) }
+    ensures back { IfOk result (λ i. (i < length classes.new) × (remove classes.new i ≡ classes.old)) }
     ensures err { OnErr result (classes.new ≡ classes.old) }
 {
-    if kind != Kind::Pc {
-        return Ok(());
-    }
     let i = place_of(classes, id);
-    classes.insert(i, id)
+    match classes.insert(i, id) {
+        Ok(()) => Ok(i),
+        Err(Memory) => Err(Memory),
+    }
+}
+
+/// Takes the number out of the list, where it stands there. It takes no memory.
+pub(crate) fn take_out(classes: &mut ClassList, id: ElementId)
+    ensures { classes.new ≡ without_number id classes.old }
+{
+    classes.retain(|class| *class != id);
 }

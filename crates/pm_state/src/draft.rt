@@ -1,7 +1,8 @@
 ghost use Rattle.std.specs.Prelude.{◌≡◌, ◌<◌, ◌≤◌, ◌+◌, OnOk, OnErr, IfOk, IfErr};
 ghost use Rattle.pm_model.specs.Effect.{refusal, effect, IsCause};
 ghost use Rattle.pm_model.specs.Formed.{IsNamed};
-ghost use Rattle.pm_state.specs.Made.{made_by};
+ghost use Rattle.pm_model.specs.Made.{made_by};
+ghost use Rattle.pm_state.specs.KeptState.{AreGivenBy};
 ghost use Rattle.pm_state.specs.declared.state.TheConstants.{LONGEST_HISTORY};
 
 use crate::graph::Graph;
@@ -48,7 +49,7 @@ impl Draft {
     pub fn change(&mut self, change: &Change) -> Result<Made, ChangeError>
         requires { IsNamed self.old.graph change.now }
         ensures ok { OnOk result (effect self.old.graph change.now ≡ Ok self.new.graph) }
-        ensures made { IfOk result (λ m. m ≡ made_by change.now) }
+        ensures made { IfOk result (λ m. m ≡ made_by self.old.graph change.now) }
         ensures refused { IfErr result (IsCause (refusal self.old.graph change.now)) }
         ensures err { OnErr result (self.new ≡ self.old) }
         ensures version { self.new.version ≡ self.old.version }
@@ -56,9 +57,11 @@ impl Draft {
         self.graph.change(change)
     }
 
-    /// The state with this graph, at the next version.
+    /// The state with this graph, at the next version. One entry opens at most one session and
+    /// starts at most one process.
     pub fn finish(self) -> State
-        requires { self.version < LONGEST_HISTORY }
+        requires room { self.version < LONGEST_HISTORY }
+        requires given { AreGivenBy self.graph.procs (self.version + 1) }
         ensures { result ≡ record { graph = self.graph; version = self.version + 1 } }
     {
         let Draft { graph, version } = self;

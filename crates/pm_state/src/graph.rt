@@ -1,14 +1,18 @@
-ghost use Rattle.std.specs.Prelude.{◌≡◌, OnOk, OnErr, IfOk, IfErr, None};
+ghost use Rattle.std.specs.Prelude.{◌≡◌, ◌<◌, IfSome, slice_get, OnOk, OnErr, IfOk, IfErr, None};
 ghost use Rattle.pm_model.specs.State.{opening, classes_in};
 ghost use Rattle.pm_model.specs.Decision.{associations_of};
 ghost use Rattle.pm_model.specs.Effect.{refusal, effect, IsCause};
 ghost use Rattle.pm_model.specs.Formed.{IsWellFormed, IsNamed};
-ghost use Rattle.pm_state.specs.Made.{made_by};
+ghost use Rattle.pm_model.specs.Made.{made_by};
+ghost use Rattle.pm_model.specs.RightSet.{bit_named};
 
 use crate::tables::Tables;
 use pm_assoc::Assoc;
+use pm_deny::Deny;
 use pm_elements::Elements;
 use pm_model::{Change, ChangeError, ClassList, ElementId, Made, Memory, Name, NameOf};
+use pm_procs::Procs;
+use pm_rights::RightNames;
 use std::alloc::Global;
 use std::marker::Model;
 
@@ -39,10 +43,16 @@ impl Graph {
         let mut classes = ClassList::new(alloc);
         classes.push(ElementId(0))?;
         let assoc = Assoc::new(alloc);
+        let deny = Deny::new(alloc);
+        let rights = RightNames::opening(alloc)?;
+        let procs = Procs::opening(alloc)?;
         Ok(Graph {
             tables: Tables {
                 elements,
                 assoc,
+                deny,
+                rights,
+                procs,
                 classes,
             },
         })
@@ -67,6 +77,35 @@ impl Graph {
         ensures { associations_of result.now ≡ self.now.associations }
     {
         &self.tables.assoc
+    }
+
+    /// The prohibitions, in order of creation.
+    pub fn deny(&self) -> &Deny
+        ensures { result.now ≡ self.now.prohibitions }
+    {
+        &self.tables.deny
+    }
+
+    /// The sessions and their processes.
+    pub fn procs(&self) -> &Procs
+        ensures { result.now ≡ self.now.procs }
+    {
+        &self.tables.procs
+    }
+
+    /// The bit of the right of a name; None exactly where no right has it.
+    pub fn right(&self, name: Name) -> Option<u8>
+        ensures value { result ≡ bit_named self.now.rights name }
+        ensures below { IfSome result (λ bit. bit < 64) }
+    {
+        self.tables.rights.find(name)
+    }
+
+    /// The name of the right of a bit; None exactly where it has none.
+    pub fn right_name(&self, bit: u8) -> Option<Name>
+        ensures { result ≡ slice_get self.now.rights bit }
+    {
+        self.tables.rights.name_of(bit)
     }
 
     /// The live policy classes, by rising number.
@@ -97,7 +136,7 @@ impl Graph {
     pub(crate) fn change(&mut self, change: &Change) -> Result<Made, ChangeError>
         requires { IsNamed self.old change.now }
         ensures ok { OnOk result (effect self.old change.now ≡ Ok self.new) }
-        ensures made { IfOk result (λ m. m ≡ made_by change.now) }
+        ensures made { IfOk result (λ m. m ≡ made_by self.old change.now) }
         ensures refused { IfErr result (IsCause (refusal self.old change.now)) }
         ensures err { OnErr result (self.new ≡ self.old) }
     {

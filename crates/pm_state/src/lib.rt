@@ -1,9 +1,13 @@
 //! The state of the policy machine: a version of its graph, and the draft of the next one.
 #![tactic(auto)]
 
+mod associations;
 mod classes;
 mod draft;
+mod elements;
 mod graph;
+mod prohibitions;
+mod sessions;
 mod state;
 mod tables;
 #[cfg(test)]

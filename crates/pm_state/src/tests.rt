@@ -1,18 +1,26 @@
-//! Versions, and changes in a draft one after another, with answers worked out by hand.
+//! Versions, changes in place and in a draft, with answers worked out by hand.
 
+ghost use Rattle.std.specs.Prelude.{◌≡◌};
 ghost use Rattle.pm_model.specs.Formed.{IsLive, IsNamed};
 
 use crate::{Draft, Graph, State};
-use pm_model::{Change, ChangeError, ElementId, Kind, Made, Name, NameOf, Refusal, Rights};
+use Came::{Done, Element, Process, Refused, Session};
+use pm_model::{Change, ChangeError, ElementId, Kind, Made, Name, NameOf, Refusal};
 use std::process::Abort;
 use std::test::Fail;
 
-#[derive(Drop)]
-enum Call {
-    Assign,
-    Deassign,
-    Associate,
-    Dissociate,
+// What comes of a change.
+#[derive(Clone, Copy, Debug, PartialEq, Eq)]
+enum Came {
+    Done,
+    Element(u32),
+    Session(u32),
+    Process(u32),
+    Refused(&'static str),
+}
+
+fn named(rt: &impl Abort, text: &str) -> Name {
+    Name::new(text.as_bytes()).expect(rt, "a name")
 }
 
 fn live(rt: &impl Abort, graph: &Graph, x: u32) -> ElementId
@@ -23,100 +31,97 @@ fn live(rt: &impl Abort, graph: &Graph, x: u32) -> ElementId
     id
 }
 
-#[tactic(auto, unfolding(pm_model::specs::RightSet::opening_rights))]
-fn change(rt: &impl Abort, graph: &Graph, call: Call, x: u32, y: u32) -> Change
-    ensures { IsNamed graph.now result }
-{
-    let x = live(rt, graph, x);
-    let y = live(rt, graph, y);
-    match call {
-        Call::Assign => Change::Assign { from: x, to: y },
-        Call::Deassign => Change::Deassign { from: x, to: y },
-        Call::Associate => Change::Associate {
-            ua: x,
-            rights: Rights(3),
-            at: y,
-        },
-        Call::Dissociate => Change::Dissociate { ua: x, at: y },
-    }
-}
-
 fn word(error: ChangeError) -> &'static str {
     match error {
-        ChangeError::Refused(Refusal::BadKinds) => "bad kinds",
-        ChangeError::Refused(Refusal::NameTaken) => "name taken",
-        ChangeError::Refused(Refusal::Already) => "already",
-        ChangeError::Refused(Refusal::Absent) => "absent",
+        ChangeError::Refused(Refusal::BadKinds) => "bad_kinds",
+        ChangeError::Refused(Refusal::NameTaken) => "name_taken",
         ChangeError::Refused(Refusal::Builtin) => "builtin",
+        ChangeError::Refused(Refusal::Occupied) => "occupied",
+        ChangeError::Refused(Refusal::InUse) => "in_use",
+        ChangeError::Refused(Refusal::UnknownSession) => "unknown_session",
+        ChangeError::Refused(Refusal::UnknownProcess) => "unknown_process",
         _ => "another",
     }
 }
 
-fn checked(answer: Result<(), ChangeError>) -> &'static str {
-    match answer {
-        Ok(()) => "made",
-        Err(error) => word(error),
+fn what(made: Made) -> Came {
+    match made {
+        Made::Nothing => Done,
+        Made::Element(id) => Element(id.number()),
+        Made::Session(n) => Session(n),
+        Made::Process(n) => Process(n),
     }
 }
 
-fn made(answer: Result<Made, ChangeError>) -> &'static str {
+fn of_answer(answer: Result<Made, ChangeError>) -> Came {
     match answer {
-        Ok(_) => "made",
-        Err(error) => word(error),
+        Ok(made) => what(made),
+        Err(error) => Refused(word(error)),
     }
 }
 
-fn create_class(rt: &impl Abort, draft: &mut Draft, text: &str) -> &'static str {
-    let class = Change::Create {
-        id: draft.graph().elements().unused(),
-        kind: Kind::Pc,
-        name: Name::new(text.as_bytes()).expect(rt, "a name"),
-        into: None,
-    };
-    made(draft.change(&class))
+fn make(rt: &impl Abort, state: &mut State, change: &Change) -> Came
+    requires { IsNamed state.old.graph change.now }
+{
+    assert!(rt; !state.is_full());
+    of_answer(state.change(change))
 }
 
-#[test]
-fn versions(rt: HostRuntime) -> Result<(), Fail> {
-    let state = State::opening(rt.alloc())?;
-    assert_eq!(rt; state.version(), 0);
-    assert_eq!(rt; state.copy()?.version(), 0);
-    assert_eq!(rt; state.graph().elements().len(), 3);
-    let next = state.draft()?.finish();
-    assert_eq!(rt; next.version(), 1);
-    assert_eq!(rt; next.graph().elements().len(), 3);
-    assert_eq!(rt; state.version(), 0);
-    Ok(())
+fn open(rt: &impl Abort, state: &mut State, user: u32) -> Came {
+    state.kept();
+    let _version = state.version();
+    let user = live(rt, state.graph(), user);
+    make(rt, state, &Change::OpenSession { user })
+}
+
+fn start(rt: &impl Abort, state: &mut State, session: u32) -> Came {
+    state.kept();
+    let _version = state.version();
+    make(rt, state, &Change::StartProcess { session })
+}
+
+fn delete(rt: &impl Abort, state: &mut State, x: u32) -> Came {
+    let id = live(rt, state.graph(), x);
+    make(rt, state, &Change::Delete { id })
+}
+
+fn define(rt: &impl Abort, state: &mut State, text: &str) -> Came {
+    let name = named(rt, text);
+    make(rt, state, &Change::DefineRight { name })
+}
+
+fn close(rt: &impl Abort, state: &mut State, session: u32) -> Came {
+    make(rt, state, &Change::CloseSession { session })
+}
+
+fn end(rt: &impl Abort, state: &mut State, process: u32) -> Came {
+    make(rt, state, &Change::EndProcess { process })
 }
 
 // The opening has the class `pm` 0, the user attribute `pm_admins` 1 and the user `root` 2.
 #[test]
-fn changes_and_refusals(rt: HostRuntime) -> Result<(), Fail> {
-    let mut draft = State::opening(rt.alloc())?.draft()?;
-    assert_eq!(rt; create_class(&rt, &mut draft, "files"), "made");
-    assert_eq!(rt; create_class(&rt, &mut draft, "files"), "name taken");
-    for (call, x, y, want) in [
-        (Call::Deassign, 1, 0, "builtin"),
-        (Call::Deassign, 2, 1, "builtin"),
-        (Call::Deassign, 1, 3, "absent"),
-        (Call::Assign, 1, 3, "made"),
-        (Call::Assign, 1, 3, "already"),
-        (Call::Deassign, 1, 3, "made"),
-        (Call::Associate, 2, 1, "bad kinds"),
-        (Call::Associate, 1, 3, "bad kinds"),
-        (Call::Dissociate, 1, 1, "absent"),
-        (Call::Associate, 1, 1, "made"),
-        (Call::Associate, 1, 1, "already"),
-    ] {
-        let change = change(&rt, draft.graph(), call, x, y);
-        assert_eq!(rt; checked(draft.graph().check(&change)), want);
-        assert_eq!(rt; made(draft.change(&change)), want, "{x} {y}");
-    }
-    assert_eq!(rt; draft.graph().assoc().len(), 1);
-    assert_eq!(rt;
-        draft.graph().classes().as_slice(),
-        [ElementId(0), ElementId(3)].as_slice()
-    );
+fn changes_in_place(rt: HostRuntime) -> Result<(), Fail> {
+    let mut state = State::opening(rt.alloc())?;
+    assert_eq!(rt; open(&rt, &mut state, 1), Refused("bad_kinds"));
+    assert_eq!(rt; open(&rt, &mut state, 2), Session(1));
+    assert_eq!(rt; start(&rt, &mut state, 9), Refused("unknown_session"));
+    assert_eq!(rt; start(&rt, &mut state, 1), Process(1));
+    assert_eq!(rt; end(&rt, &mut state, 9), Refused("unknown_process"));
+    assert_eq!(rt; end(&rt, &mut state, 1), Done);
+    assert_eq!(rt; close(&rt, &mut state, 1), Done);
+    assert_eq!(rt; open(&rt, &mut state, 2), Session(2));
+    assert_eq!(rt; delete(&rt, &mut state, 2), Refused("builtin"));
+    assert_eq!(rt; state.version(), 5);
+    Ok(())
+}
+
+#[test]
+fn names_of_rights(rt: HostRuntime) -> Result<(), Fail> {
+    let mut state = State::opening(rt.alloc())?;
+    assert_eq!(rt; define(&rt, &mut state, "keep"), Refused("name_taken"));
+    assert_eq!(rt; define(&rt, &mut state, "sign"), Done);
+    assert_eq!(rt; state.graph().right(named(&rt, "sign")), Some(17));
+    assert!(rt; state.graph().right_name(18).is_none());
     Ok(())
 }
 
@@ -127,5 +132,28 @@ fn names(rt: HostRuntime) -> Result<(), Fail> {
         let id = live(&rt, state.graph(), x);
         assert_eq!(rt; state.graph().name_of(id).bytes(), want.as_bytes());
     }
+    Ok(())
+}
+
+fn create_class(rt: &impl Abort, draft: &mut Draft, text: &str) -> Came {
+    let class = Change::Create {
+        id: draft.graph().elements().unused(),
+        kind: Kind::Pc,
+        name: named(rt, text),
+        into: None,
+    };
+    of_answer(draft.change(&class))
+}
+
+#[test]
+fn changes_in_a_draft(rt: HostRuntime) -> Result<(), Fail> {
+    let mut draft = State::opening(rt.alloc())?.draft()?;
+    assert_eq!(rt; create_class(&rt, &mut draft, "files"), Element(3));
+    assert_eq!(rt;
+        create_class(&rt, &mut draft, "files"),
+        Refused("name_taken")
+    );
+    assert_eq!(rt; create_class(&rt, &mut draft, "wards"), Element(4));
+    assert_eq!(rt; draft.graph().classes().len(), 3);
     Ok(())
 }

@@ -1,3 +1,1 @@
-mod Granting
-mod RightNames
 mod Telling

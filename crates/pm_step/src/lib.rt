@@ -1,9 +1,7 @@
 //! One request is the machine's answer.
 #![tactic(auto)]
 
-mod access;
-mod names;
+mod proposals;
 mod solo;
-mod steps;
 
 pub use solo::Solo;

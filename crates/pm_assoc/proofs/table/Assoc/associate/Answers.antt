@@ -1,7 +1,7 @@
 use Rattle.std.proofs.Common.{refl}
 use Rattle.pm_model.specs.Decision.{associations_of}
 use Rattle.pm_assoc.specs.Grantees.{association}
-use Rattle.pm_assoc.proofs.Added.{length-joined}
+use Rattle.pm_model.proofs.Joined.{length-joined}
 use Rattle.pm_assoc.proofs.table.Assoc.associate.Goals as goal
 
 pub invariant_of-self-2 : goal.invariant_of-self-2

@@ -1,6 +1,6 @@
 -- One element less, to which nothing was assigned.
 use Rattle.std.proofs.Common.{◌≡◌, ◌-◌, sym, ◌∙◌, arith, false, true, is_some}
-use Rattle.pm_elements.specs.Checks.{has_child}
+use Rattle.pm_model.specs.Effect.{has_child}
 use Rattle.pm_elements.specs.Slots.{slot_at}
 use Rattle.pm_elements.proofs.Shown.{slot_taken}
 use Rattle.pm_elements.proofs.Removing.{Kept-removed, shown-removed, parents_stay, one_less}

@@ -1,0 +1,134 @@
+-- The first capability that is denied: of two lists one after another, and of the root user none.
+use Rattle.std.proofs.Common.{◌≡◌, ◌+◌, ◌<◌, ℕ, List, [], ◌∷◌, ◌++◌, length, map, drop, slice_get, Option, Some, None, IsSome, refl, sym, ◌∙◌, ap, subst, arith}
+use Rattle.std.proofs.lemmas.Option.{slice_get-get_or}
+use Rattle.pm_model.specs.State.{Graph, root}
+use Rattle.pm_model.specs.Authority.{denial_in, denied_unless, first_denied, prohibited_at, required, to_prohibit, to_prohibit_to, subject_element}
+use Rattle.pm_model.specs.declared.elements.Kind.{Kind}
+use Rattle.pm_model.specs.declared.elements.Kind.TheVariants.{User, Ua, Object, Oa, Pc}
+use Rattle.pm_model.specs.declared.prohibitions.Prohibition.{Prohibition}
+use Rattle.pm_model.specs.declared.requests.Change.{Change}
+use Rattle.pm_model.specs.declared.requests.Change.TheVariants.{Create, Delete, Assign, Deassign, Associate, Dissociate, OpenSession, CloseSession, StartProcess, EndProcess, Prohibit, Lift, DefineRight}
+use Rattle.pm_model.specs.declared.replies.Reason.{Reason}
+use Rattle.pm_model.specs.declared.replies.Refusal.{Refusal}
+use Rattle.pm_model.specs.Formed.{IsWellFormed}
+use Rattle.pm_model.proofs.Walks.{drop-item}
+use Rattle.pm_laws.proofs.RightNames.{opening-few}
+
+-- ---- a list of places
+
+abbrev pub on_places : List ℕ → List (ℕ × ℕ)
+on_places places = map (λ a. (to_prohibit_to, a)) places
+
+abbrev pub or_else : Option Refusal → Option Refusal → Option Refusal
+or_else (Some why) rest = Some why
+or_else None rest = rest
+
+module _ (G : Graph) (u : ℕ) (q : Option ℕ) where
+  unless-rest : (r e : ℕ) (why : Option Reason) (rest more : Option Refusal) →
+      denied_unless G r e why (or_else rest more) ≡ or_else (denied_unless G r e why rest) more
+  unless-rest r e (Some why) rest more = refl
+  unless-rest r e None rest more = refl
+
+  -- the places of two sets: those of the first, and then those of the second
+  pub places-append : (xs ys : List ℕ) →
+      first_denied G u q (on_places (xs ++ ys)) ≡ or_else (first_denied G u q (on_places xs)) (first_denied G u q (on_places ys))
+  places-append [] ys = refl
+  places-append (x ∷ xs) ys =
+      ap (denied_unless G to_prohibit_to x (denial_in G u q to_prohibit_to x)) (places-append xs ys)
+      ∙ unless-rest to_prohibit_to x (denial_in G u q to_prohibit_to x) (first_denied G u q (on_places xs)) (first_denied G u q (on_places ys))
+
+  -- the answer to the places is that of those from place i on
+  abbrev pub IsLeft : List ℕ → ℕ → Type 0
+  IsLeft places i = first_denied G u q (on_places places) ≡ first_denied G u q (on_places (drop i places))
+
+  left-step : (places : List ℕ) (i x : ℕ) → IsLeft places i → slice_get places i ≡ Some x →
+      first_denied G u q (on_places places)
+      ≡ or_else (first_denied G u q (on_places (x ∷ []))) (first_denied G u q (on_places (drop (i + 1) places)))
+  left-step places i x h at =
+      h ∙ ap (λ xs. first_denied G u q (on_places xs)) (drop-item places i x at) ∙ places-append (x ∷ []) (drop (i + 1) places)
+
+  pub left-denied : (places : List ℕ) (i x : ℕ) (why : Refusal) → IsLeft places i → slice_get places i ≡ Some x →
+      Some why ≡ first_denied G u q (on_places (x ∷ [])) → Some why ≡ first_denied G u q (on_places places)
+  left-denied places i x why h at is = rw (left-step places i x h at, ← is) refl
+
+  pub left-more : (places : List ℕ) (i x : ℕ) → IsLeft places i → slice_get places i ≡ Some x →
+      None ≡ first_denied G u q (on_places (x ∷ [])) → IsLeft places (i + 1)
+  left-more places i x h at is = rw (left-step places i x h at, ← is) refl
+
+  -- ---- one capability before others
+
+  pub first-told : (r e : ℕ) (o : Option Reason) (why : Refusal) (rest : Option Refusal) →
+      Some why ≡ denied_unless G r e o None → Some why ≡ denied_unless G r e o rest
+  first-told r e (Some reason) why rest is = is
+  first-told r e None why rest is = absurd (cc)
+
+  first-allowed : (r e : ℕ) (o : Option Reason) (rest : Option Refusal) → None ≡ denied_unless G r e o None → denied_unless G r e o rest ≡ rest
+  first-allowed r e (Some reason) rest is = absurd (cc)
+  first-allowed r e None rest is = refl
+
+  -- where the subject is allowed, a prohibition asks for its two sets
+  sets-left : (p : Prohibition) (e : ℕ) → e ≡ subject_element G p.subject → None ≡ first_denied G u q ((to_prohibit, e) ∷ []) →
+      first_denied G u q (required G (Prohibit p)) ≡ or_else (first_denied G u q (on_places p.inc)) (first_denied G u q (on_places p.exc))
+  sets-left p e same none =
+      let s = subject_element G p.subject in
+      let allowed : None ≡ first_denied G u q ((to_prohibit, s) ∷ []) = subst (λ n. None ≡ first_denied G u q ((to_prohibit, n) ∷ [])) same none in
+      first-allowed to_prohibit s (denial_in G u q to_prohibit s) (first_denied G u q (on_places (p.inc ++ p.exc))) allowed ∙ places-append p.inc p.exc
+
+  pub inc-denied : (p : Prohibition) (e : ℕ) (why : Refusal) → e ≡ subject_element G p.subject →
+      None ≡ first_denied G u q ((to_prohibit, e) ∷ []) → Some why ≡ first_denied G u q (on_places p.inc) →
+      Some why ≡ first_denied G u q (required G (Prohibit p))
+  inc-denied p e why same none is = sym (sets-left p e same none ∙ ap (λ o. or_else o (first_denied G u q (on_places p.exc))) (sym is))
+
+  pub exc-left : (p : Prohibition) (e : ℕ) (last : Option Refusal) → e ≡ subject_element G p.subject →
+      None ≡ first_denied G u q ((to_prohibit, e) ∷ []) → None ≡ first_denied G u q (on_places p.inc) →
+      last ≡ first_denied G u q (on_places p.exc) → last ≡ first_denied G u q (required G (Prohibit p))
+  exc-left p e last same none inc is =
+      is ∙ sym (sets-left p e same none ∙ ap (λ o. or_else o (first_denied G u q (on_places p.exc))) (sym inc))
+
+-- a right of the opening has a name
+pub right-named : (G : Graph) (r : ℕ) → IsWellFormed G → r < 17 → IsSome (slice_get G.rights r)
+right-named G r f below =
+    let few = opening-few G.rights f.rights.opening in
+    let within : r < length G.rights = omega (arith, few, below) in rw (slice_get-get_or G.rights r [] within) refl
+
+-- ---- the root user
+
+-- it has what any change asks for
+root-places : (G : Graph) (q : Option ℕ) (places : List ℕ) → first_denied G root q (on_places places) ≡ None
+root-places G q [] = refl
+root-places G q (x ∷ xs) = root-places G q xs
+
+root-lift : (G : Graph) (q : Option ℕ) (o : Option Prohibition) → first_denied G root q (prohibited_at G o) ≡ None
+root-lift G q None = refl
+root-lift G q (Some p) = refl
+
+root-create : (G : Graph) (q : Option ℕ) (id : ℕ) (kind : Kind) (name : List ℕ) (into : Option ℕ) →
+    first_denied G root q (required G (Create id kind name into)) ≡ None
+root-create G q id User name None = refl
+root-create G q id Ua name None = refl
+root-create G q id Object name None = refl
+root-create G q id Oa name None = refl
+root-create G q id Pc name None = refl
+root-create G q id User name (Some into) = refl
+root-create G q id Ua name (Some into) = refl
+root-create G q id Object name (Some into) = refl
+root-create G q id Oa name (Some into) = refl
+root-create G q id Pc name (Some into) = refl
+
+root-allowed : (G : Graph) (q : Option ℕ) (c : Change) → first_denied G root q (required G c) ≡ None
+root-allowed G q (Create id kind name into) = root-create G q id kind name into
+root-allowed G q (Delete id) = refl
+root-allowed G q (Assign x y) = refl
+root-allowed G q (Deassign x y) = refl
+root-allowed G q (Associate u r t) = refl
+root-allowed G q (Dissociate u t) = refl
+root-allowed G q (Prohibit p) = root-places G q (p.inc ++ p.exc)
+root-allowed G q (Lift i) = root-lift G q (slice_get G.prohibitions i)
+root-allowed G q (DefineRight name) = refl
+root-allowed G q (OpenSession u) = refl
+root-allowed G q (CloseSession n) = refl
+root-allowed G q (StartProcess n) = refl
+root-allowed G q (EndProcess n) = refl
+
+pub root_none : (G : Graph) (u : ℕ) (q : Option ℕ) (c : Change) → u ≡ root → None ≡ first_denied G u q (required G c)
+root_none G u q c is = rw is (sym (root-allowed G q c))

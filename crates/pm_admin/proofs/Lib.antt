@@ -1,0 +1,5 @@
+mod FirstDenied
+mod Granting
+mod Places
+mod Reasons
+mod RightNames

@@ -1,0 +1,8 @@
+use Rattle.std.proofs.Common.{sym}
+use Rattle.pm_laws.proofs.Live.{user-live}
+use Rattle.pm_admin.proofs.capabilities.subject_element.Goals as goal
+
+pub returns-in-Some-clause-live : goal.returns-in-Some-clause-live
+returns-in-Some-clause-live c =
+    let found = sym c.in-Some.ensures in
+    user-live c.args.graph.now c.in-Process.process c.in-Some.user c.formed.ensures (rw c.procs.ensures at found)

@@ -1,0 +1,5 @@
+pub mod Containing
+pub mod Resolved
+pub mod Rights
+pub mod Ruled
+pub mod Verdicts

@@ -1,0 +1,84 @@
+//! The ruling on a command.
+ghost use Rattle.std.specs.Prelude.{◌≡◌, IfOk};
+ghost use Rattle.pm_model.specs.Authority.{first_denied, required, ruling};
+ghost use Rattle.pm_model.specs.Formed.{IsLive, IsNamed};
+ghost use Rattle.pm_admin.specs.Resolved.{Finds};
+ghost use Rattle.pm_admin.specs.Ruled.{IsRuling};
+
+use crate::capabilities::denied_change;
+use crate::denials::ROOT;
+use crate::names::resolve;
+use pm_model::{Change, ChangeError, Command, ElementId, Memory, Refusal};
+use pm_state::Graph;
+
+/// Whether something may be done, and if not, why.
+#[derive(Drop)]
+pub enum Ruling {
+    Allowed,
+    Refused(Refusal),
+}
+
+// The root user has all capabilities that a command may ask for, so no search is made for it.
+#[tactic(auto, using(crate::proofs::FirstDenied::root_none))]
+fn first_denied(
+    graph: &Graph,
+    user: ElementId,
+    process: Option<u32>,
+    change: &Change,
+) -> Result<Option<Refusal>, Memory>
+    requires user { IsLive graph.now.elements user }
+    requires named { IsNamed graph.now change.now }
+    ensures { IfOk result (λ d. d ≡ first_denied graph.now user process (required graph.now change.now)) }
+{
+    if user.number() == ROOT {
+        return Ok(None);
+    }
+    let mut reach = match graph.elements().paths() {
+        Ok(reach) => reach,
+        Err(Memory) => return Err(Memory),
+    };
+    Ok(denied_change(graph, &mut reach, user, process, change))
+}
+
+/// The change that the command names, where the user and the process have each capability that it asks
+/// for; else the first name or number that is unknown, or the first capability that is denied. A
+/// command of the root user takes no memory but for the sets of a prohibition.
+pub fn permit(
+    graph: &Graph,
+    user: ElementId,
+    process: Option<u32>,
+    command: &Command,
+) -> Result<Change, ChangeError>
+    requires { IsLive graph.now.elements user }
+    ensures value { Finds (ruling graph.now user process command.now) result }
+    ensures named { IfOk result (IsNamed graph.now) }
+{
+    let change = match resolve(graph, command) {
+        Ok(change) => change,
+        Err(ChangeError::Refused(why)) => return Err(ChangeError::Refused(why)),
+        Err(ChangeError::Memory) => return Err(ChangeError::Memory),
+    };
+    match first_denied(graph, user, process, &change) {
+        Ok(None) => Ok(change),
+        Ok(Some(why)) => Err(ChangeError::Refused(why)),
+        Err(Memory) => Err(ChangeError::Memory),
+    }
+}
+
+/// Whether the user and the process may give the command: what [`permit`] finds, without the change.
+pub fn authorise(
+    graph: &Graph,
+    user: ElementId,
+    process: Option<u32>,
+    command: &Command,
+) -> Result<Ruling, Memory>
+    requires { IsLive graph.now.elements user }
+    ensures { IfOk result (IsRuling (ruling graph.now user process command.now)) }
+{
+    let _change = match permit(graph, user, process, command) {
+        Ok(change) => change,
+        Err(ChangeError::Refused(why)) => return Ok(Ruling::Refused(why)),
+        Err(ChangeError::Memory) => return Err(Memory),
+    };
+    Ok(Ruling::Allowed)
+}

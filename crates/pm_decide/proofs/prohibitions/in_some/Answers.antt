@@ -1,0 +1,14 @@
+-- The element is in the place at i, or the answer is that of those after it.
+use Rattle.std.proofs.Common.{◌∙◌}
+use Rattle.pm_decide.proofs.Walks.{any-yes, any-no}
+use Rattle.pm_decide.proofs.prohibitions.in_some.Goals as goal
+
+pub returns-then-contains-clause-answer : goal.returns-then-contains-clause-answer
+returns-then-contains-clause-answer g c =
+    any-yes _ _ c.loop-i.i c.at.result.now c.loop-i.invariant.rest c.at.ensures (rw c.loop-i.invariant.same at c.if-contains.ensures.answer)
+
+pub loop-i-preserved : goal.loop-i-preserved
+loop-i-preserved g c = record {
+  same = c.contains.ensures.same ∙ c.loop-i.invariant.same;
+  rest = any-no _ _ c.loop-i.i c.at.result.now c.loop-i.invariant.rest c.at.ensures (rw c.loop-i.invariant.same at c.if-contains.ensures.answer);
+}

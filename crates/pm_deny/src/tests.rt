@@ -1,0 +1,262 @@
+use super::*;
+use pm_model::{
+    Bars, ChangeError, ElementId, Memory, Mode, Name, PlaceList, Prohibition, Reach, Refusal,
+    Rights, Subject, Table,
+};
+use std::alloc::Global;
+use std::process::Abort;
+use std::test::Fail;
+
+/// A prohibition: its name, its subject, its rights and its two sets.
+type Row = (
+    &'static str,
+    Subject<ElementId, u32>,
+    u64,
+    &'static [u32],
+    &'static [u32],
+);
+
+fn named(rt: &impl Abort, text: &str) -> Name {
+    Name::new(text.as_bytes()).expect(rt, "a name")
+}
+
+fn places(alloc: Global, numbers: &[u32]) -> Result<PlaceList, Memory> {
+    let mut places = PlaceList::new(alloc);
+    for number in numbers {
+        places.push(ElementId(*number))?;
+    }
+    Ok(places)
+}
+
+fn item_of(rt: &(impl Abort + Alloc<A = Global>), row: &Row) -> Result<Prohibition, Memory> {
+    let (text, subject, rights, inc, exc) = row;
+    let inc = places(rt.alloc(), inc)?;
+    let exc = places(rt.alloc(), exc)?;
+    Ok(Prohibition {
+        name: named(rt, text),
+        subject: *subject,
+        rights: Rights(*rights),
+        inc,
+        exc,
+        mode: Mode::All,
+    })
+}
+
+/// The list of these prohibitions, made in this order.
+fn list_of(rt: &(impl Abort + Alloc<A = Global>), rows: &[Row]) -> Result<Deny, DenyError> {
+    let mut list = Deny::new(rt.alloc());
+    for row in rows {
+        list.prohibit(item_of(rt, row)?)?;
+    }
+    Ok(list)
+}
+
+/// The names, one behind the other.
+fn names_of(alloc: Global, list: &Deny) -> Result<Vec<u8>, Memory> {
+    let mut names = Vec::new(alloc);
+    for i in 0..list.len() {
+        for byte in list.at(i).name.bytes() {
+            names.push(*byte)?;
+        }
+    }
+    Ok(names)
+}
+
+const ROWS: [Row; 6] = [
+    ("a", Subject::Process(1), 1, &[3], &[]),
+    ("b", Subject::User(ElementId(1)), 1, &[], &[4]),
+    ("c", Subject::Process(2), 2, &[5, 6], &[7, 8]),
+    ("d", Subject::Ua(ElementId(2)), 1, &[3], &[3]),
+    ("e", Subject::Process(1), 4, &[], &[9]),
+    ("f", Subject::Process(11), 1, &[3], &[]),
+];
+
+/// Two prohibitions whose names stand in the list; the second has no element in its sets.
+const TAKEN: [Row; 2] = [
+    ("c", Subject::User(ElementId(5)), 1, &[3], &[]),
+    ("a", Subject::Process(1), 1, &[], &[]),
+];
+
+#[test]
+fn a_name_stands_once(rt: HostRuntime) -> Result<(), Fail> {
+    let mut list = list_of(&rt, &ROWS)?;
+    for row in &TAKEN {
+        let item = item_of(&rt, row)?;
+        assert_eq!(rt; list.check_prohibit(&item), Err(DenyError::NameTaken));
+        assert_eq!(rt; list.prohibit(item), Err(DenyError::NameTaken));
+    }
+    assert_eq!(rt;
+        names_of(rt.alloc(), &list)?.as_slice(),
+        b"abcdef".as_slice()
+    );
+    Ok(())
+}
+
+#[test]
+fn one_of_the_sets_has_an_element(rt: HostRuntime) -> Result<(), Fail> {
+    let mut list = Deny::new(rt.alloc());
+    let user = Subject::User(ElementId(5));
+    let empty = item_of(&rt, &("a", user, 1, &[], &[]))?;
+    assert_eq!(rt; list.check_prohibit(&empty), Err(DenyError::EmptyRange));
+    assert_eq!(rt; list.prohibit(empty), Err(DenyError::EmptyRange));
+    list.prohibit(item_of(&rt, &("a", user, 1, &[3], &[]))?)?;
+    let excluding = item_of(&rt, &("b", user, 1, &[], &[3]))?;
+    assert_eq!(rt; list.check_prohibit(&excluding), Ok(()));
+    list.prohibit(excluding)?;
+    assert_eq!(rt; list.len(), 2);
+    Ok(())
+}
+
+#[test]
+fn lift_gives_the_prohibition(rt: HostRuntime) -> Result<(), Fail> {
+    let mut list = list_of(&rt, &ROWS)?;
+    let c = named(&rt, "c");
+    assert_eq!(rt; list.find(c), Some(2));
+    let lifted = list.lift(c)?;
+    assert!(rt; lifted.name == c);
+    assert_eq!(rt;
+        lifted.exc.as_slice(),
+        [ElementId(7), ElementId(8)].as_slice()
+    );
+    assert_eq!(rt;
+        names_of(rt.alloc(), &list)?.as_slice(),
+        b"abdef".as_slice()
+    );
+    assert_eq!(rt; list.find(c), None);
+    let again = list.lift(c);
+    assert!(rt; matches!(again, Err(DenyError::Absent)));
+    assert_eq!(rt; list.find(named(&rt, "d")), Some(2));
+    Ok(())
+}
+
+#[test]
+fn processes_end_with_their_prohibitions(rt: HostRuntime) -> Result<(), Fail> {
+    let mut list = list_of(&rt, &ROWS)?;
+    list.lift_process(1);
+    assert_eq!(rt; names_of(rt.alloc(), &list)?.as_slice(), b"bcdf".as_slice());
+    list.lift_process(1);
+    list.lift_processes(&[11, 1, 2, 3]);
+    assert_eq!(rt; names_of(rt.alloc(), &list)?.as_slice(), b"bd".as_slice());
+    Ok(())
+}
+
+#[test]
+fn names_subject_and_sets(rt: HostRuntime) -> Result<(), Fail> {
+    let list = list_of(&rt, &ROWS)?;
+    for id in 1..10 {
+        assert!(rt; list.names(ElementId(id)), "{id}");
+    }
+    assert!(rt; !list.names(ElementId(0)));
+    assert!(rt; !list.names(ElementId(11)), "a process is no element");
+    Ok(())
+}
+
+/// Each element is in itself and in 0.
+#[derive(Drop)]
+struct InZero;
+
+impl Reach for InZero {
+    ghost use Rattle.std.specs.Prelude.{true, ◌==◌, ◌||◌};
+
+    ghost relation = { λ s. record { live = λ n. true; below = λ x y. x == y || y == 0 } };
+
+    fn contains(&mut self, x: ElementId, y: ElementId) -> bool {
+        x == y || y.number() == 0
+    }
+}
+
+const BARS: [Row; 4] = [
+    ("a", Subject::User(ElementId(5)), 2, &[0], &[]),
+    ("b", Subject::Process(4), 1, &[0], &[]),
+    ("c", Subject::User(ElementId(5)), 1, &[3], &[]),
+    ("d", Subject::Ua(ElementId(0)), 1, &[3], &[]),
+];
+
+/// A user, a process, a right, an element, and the place of the first that applies.
+const ASKED: [(u32, Option<u32>, u8, u32, Option<u32>); 7] = [
+    (5, None, 0, 3, Some(2)),
+    (5, Some(4), 0, 3, Some(1)),
+    (5, Some(9), 0, 3, Some(2)),
+    (6, None, 0, 3, Some(3)),
+    (5, None, 1, 3, Some(0)),
+    (6, None, 1, 3, None),
+    (6, None, 0, 8, None),
+];
+
+#[test]
+fn the_first_of_two_applies(rt: HostRuntime) -> Result<(), Fail> {
+    let list = list_of(&rt, &BARS)?;
+    for (user, process, right, element, want) in ASKED {
+        let user = ElementId(user);
+        let element = ElementId(element);
+        let first = list.first_applying(user, process, right, element, &mut InZero);
+        assert_eq!(rt; first, want);
+    }
+    Ok(())
+}
+
+#[test]
+fn a_copy_is_another_list(rt: HostRuntime) -> Result<(), Fail> {
+    let mut list = list_of(&rt, &ROWS)?;
+    let mut copy = list.copy()?;
+    let place = list.find(named(&rt, "a")).expect(&rt, "a place");
+    let first = list.lift_at(place);
+    assert!(rt; first.subject == Subject::Process(1));
+    assert_eq!(rt;
+        names_of(rt.alloc(), &list)?.as_slice(),
+        b"bcdef".as_slice()
+    );
+    assert_eq!(rt;
+        names_of(rt.alloc(), &copy)?.as_slice(),
+        b"abcdef".as_slice()
+    );
+    let third = copy.lift(named(&rt, "c"))?;
+    assert_eq!(rt;
+        third.inc.as_slice(),
+        [ElementId(5), ElementId(6)].as_slice()
+    );
+    Ok(())
+}
+
+fn numbered(rt: &impl Abort, n: u32) -> Name {
+    let digit = |place: u32| b'0' + (n / place % 10) as u8;
+    let bytes = [digit(1000), digit(100), digit(10), digit(1)];
+    Name::new(bytes.as_slice()).expect(rt, "a name")
+}
+
+#[test]
+fn holds_4096_prohibitions(rt: HostRuntime) -> Result<(), Fail> {
+    let mut list = Deny::new(rt.alloc());
+    for n in 0..4096 {
+        let mut item = item_of(&rt, &ROWS[0])?;
+        item.name = numbered(&rt, n);
+        list.prohibit(item)?;
+    }
+    assert_eq!(rt; list.len(), 4096);
+    assert_eq!(rt;
+        list.prohibit(item_of(&rt, &ROWS[0])?),
+        Err(DenyError::Full)
+    );
+    list.lift_process(1);
+    assert_eq!(rt; list.len(), 0);
+    Ok(())
+}
+
+#[test]
+fn errors_are_told_as_refusals(rt: HostRuntime) {
+    let taken = change_error(DenyError::NameTaken);
+    assert!(rt; matches!(taken, ChangeError::Refused(Refusal::NameTaken)));
+    let empty = change_error(DenyError::EmptyRange);
+    assert!(rt; matches!(empty, ChangeError::Refused(Refusal::EmptyRange)));
+    let full = change_error(DenyError::Full);
+    assert!(rt;
+        matches!(
+            full,
+            ChangeError::Refused(Refusal::Full(Table::Prohibitions))
+        )
+    );
+    let absent = change_error(DenyError::Absent);
+    assert!(rt; matches!(absent, ChangeError::Refused(Refusal::Absent)));
+    let memory = change_error(DenyError::Memory);
+    assert!(rt; matches!(memory, ChangeError::Memory));
+}

@@ -1,0 +1,239 @@
+//! Forms of fields: names, numbers, lists of names, subjects and modes, by themselves and at a line's keys.
+ghost use Rattle.std.specs.Prelude.{◌≡◌, [], option_map, option_and_then, bytes_eq, IfOk};
+ghost use Rattle.std.specs.List.{list_any};
+ghost use Rattle.serde_json.specs.View.{view, items_view};
+ghost use Rattle.pm_model.specs.Asked.{exc_at, list_form, looking, mode_at, mode_form, mode_of, name_at, name_form, names_of, number_at, one_subject, optional, process_of, required, rights_at, rights_form, sets_of, short_form, subject_at, subject_form, unlike, whole_form};
+ghost use Rattle.pm_model.specs.Words.{key_text};
+ghost use Rattle.pm_json.specs.Reads.{Reads};
+
+use crate::errors::ReadError;
+use pm_model::{BadLine, Field, Key, Memory, Mode, Name, NameList, Subject};
+use serde_json::Value;
+use std::alloc::Global;
+
+/// How many rights a line may list, repeats included.
+const MOST_RIGHTS: usize = 32;
+
+/// How many names the two sets of a prohibition may list together, repeats included.
+const MOST_IN_SETS: usize = 32;
+
+fn name(value: &Value) -> Option<Name>
+    ensures { result ≡ name_form (view value.now) }
+{
+    let text = value.as_str()?;
+    Name::new(text.as_bytes())
+}
+
+/// The name at the key.
+pub(crate) fn name_at(field: Field, key: Key, value: &Value) -> Result<Name, BadLine>
+    ensures { result ≡ name_at (looking (view value.now)) field key }
+{
+    match value.get(key.text()).and_then(name) {
+        None => Err(BadLine::BadField(field)),
+        Some(name) => Ok(name),
+    }
+}
+
+fn short(value: &Value) -> Option<u32>
+    ensures { result ≡ short_form (view value.now) }
+{
+    let number = value.as_u64()?;
+    u32::try_from(number).ok()
+}
+
+/// The number of 32 bits at the key, where one is there.
+fn short_if(key: Key, value: &Value) -> Option<u32>
+    ensures { result ≡ option_and_then short_form (looking (view value.now) (key_text key)) }
+{
+    value.get(key.text()).and_then(short)
+}
+
+/// The number of 32 bits at the key.
+pub(crate) fn number_at(field: Field, key: Key, value: &Value) -> Result<u32, BadLine>
+    ensures { result ≡ number_at (looking (view value.now)) field key }
+{
+    match short_if(key, value) {
+        None => Err(BadLine::BadField(field)),
+        Some(n) => Ok(n),
+    }
+}
+
+/// The process that asks.
+pub(crate) fn process(value: &Value) -> Result<u32, BadLine>
+    ensures { result ≡ process_of (looking (view value.now)) }
+{
+    number_at(Field::Proc, Key::Proc, value)
+}
+
+/// The number of 64 bits that was found, which may be left out.
+pub(crate) fn optional_whole(field: Field, found: Option<&Value>) -> Result<Option<u64>, BadLine>
+    ensures { result ≡ optional field (option_map (λ v. view v.now) found.entry) whole_form }
+{
+    match found {
+        None => Ok(None),
+        Some(value) => match value.as_u64() {
+            None => Err(BadLine::BadField(field)),
+            Some(n) => Ok(Some(n)),
+        },
+    }
+}
+
+fn names_of(alloc: Global, items: &[Value]) -> Result<Option<NameList>, Memory>
+    ensures { IfOk result (λ o. o ≡ names_of (items_view items.now)) }
+{
+    let mut list = NameList::new(alloc);
+    for item in items {
+        match name(item) {
+            None => return Ok(None),
+            Some(name) => list.push(name)?,
+        }
+    }
+    Ok(Some(list))
+}
+
+fn list(alloc: Global, value: &Value) -> Result<Option<NameList>, Memory>
+    ensures { IfOk result (λ o. o ≡ list_form (view value.now)) }
+{
+    match value.as_array() {
+        None => Ok(None),
+        Some(items) => names_of(alloc, items),
+    }
+}
+
+fn list_at(alloc: Global, field: Field, key: Key, value: &Value) -> Result<NameList, ReadError>
+    ensures { Reads result (required field (option_and_then list_form (looking (view value.now) (key_text key)))) }
+{
+    let Some(found) = value.get(key.text()) else {
+        return Err(ReadError::Bad(BadLine::BadField(field)));
+    };
+    match list(alloc, found)? {
+        None => Err(ReadError::Bad(BadLine::BadField(field))),
+        Some(names) => Ok(names),
+    }
+}
+
+fn contains(list: &[Name], name: &Name) -> bool
+    ensures { result ≡ list_any (bytes_eq name.now) list.now }
+{
+    list.iter().any(|n| name.bytes() == n.bytes())
+}
+
+// The names in order, each at its first place alone.
+fn unlike(alloc: Global, names: &[Name]) -> Result<NameList, Memory>
+    ensures { IfOk result (λ l. l ≡ unlike [] names.now) }
+{
+    let mut list = NameList::new(alloc);
+    for name in names {
+        if !contains(list.as_slice(), name) {
+            list.push(*name)?;
+        }
+    }
+    Ok(list)
+}
+
+fn rights(alloc: Global, value: &Value) -> Result<Option<NameList>, Memory>
+    ensures { IfOk result (λ o. o ≡ rights_form (view value.now)) }
+{
+    match list(alloc, value)? {
+        None => Ok(None),
+        Some(names) => {
+            if names.len() == 0 || names.len() > MOST_RIGHTS {
+                return Ok(None);
+            }
+            Ok(Some(unlike(alloc, names.as_slice())?))
+        }
+    }
+}
+
+/// The set of rights.
+pub(crate) fn rights_at(alloc: Global, value: &Value) -> Result<NameList, ReadError>
+    ensures { Reads result (rights_at (looking (view value.now))) }
+{
+    let Some(found) = value.get(Key::Rights.text()) else {
+        return Err(ReadError::Bad(BadLine::BadField(Field::Rights)));
+    };
+    match rights(alloc, found)? {
+        None => Err(ReadError::Bad(BadLine::BadField(Field::Rights))),
+        Some(list) => Ok(list),
+    }
+}
+
+fn exc_at(alloc: Global, inc: &NameList, value: &Value) -> Result<NameList, ReadError>
+    ensures { Reads result (exc_at (looking (view value.now)) inc.now) }
+{
+    let exc = list_at(alloc, Field::Exc, Key::Exc, value)?;
+    if inc.len().saturating_add(exc.len()) > MOST_IN_SETS {
+        return Err(ReadError::Bad(BadLine::BadField(Field::Exc)));
+    }
+    Ok(exc)
+}
+
+/// The fields `inc` and `exc`.
+pub(crate) fn sets(alloc: Global, value: &Value) -> Result<(NameList, NameList), ReadError>
+    ensures { Reads result (sets_of (looking (view value.now))) }
+{
+    let inc = list_at(alloc, Field::Inc, Key::Inc, value)?;
+    let exc = exc_at(alloc, &inc, value)?;
+    Ok((inc, exc))
+}
+
+fn one_subject(
+    user: Option<&Value>,
+    ua: Option<&Value>,
+    process: Option<&Value>,
+) -> Option<Subject<Name, u32>>
+    ensures { result ≡ one_subject (option_map (λ v. view v.now) user.entry) (option_map (λ v. view v.now) ua.entry) (option_map (λ v. view v.now) process.entry) }
+{
+    match (user, ua, process) {
+        (Some(user), None, None) => name(user).map(Subject::User),
+        (None, Some(ua), None) => name(ua).map(Subject::Ua),
+        (None, None, Some(process)) => short(process).map(Subject::Process),
+        _ => None,
+    }
+}
+
+fn subject(value: &Value) -> Option<Subject<Name, u32>>
+    ensures { result ≡ subject_form (view value.now) }
+{
+    let user = value.get(Key::User.text());
+    let ua = value.get(Key::Ua.text());
+    let process = value.get(Key::Process.text());
+    one_subject(user, ua, process)
+}
+
+/// Whom a prohibition denies.
+pub(crate) fn subject_at(value: &Value) -> Result<Subject<Name, u32>, BadLine>
+    ensures { result ≡ subject_at (looking (view value.now)) }
+{
+    match value.get(Key::Subject.text()).and_then(subject) {
+        None => Err(BadLine::BadField(Field::Subject)),
+        Some(subject) => Ok(subject),
+    }
+}
+
+#[tactic(auto, unfolding(pm_model::specs::Words::word_text))]
+fn mode_named(word: &str) -> Option<Mode>
+    ensures { result ≡ mode_of word.now }
+{
+    match word {
+        "all" => Some(Mode::All),
+        "any" => Some(Mode::Any),
+        _ => None,
+    }
+}
+
+fn mode(value: &Value) -> Option<Mode>
+    ensures { result ≡ mode_form (view value.now) }
+{
+    value.as_str().and_then(mode_named)
+}
+
+/// How the sets of a prohibition make its range.
+pub(crate) fn mode_at(value: &Value) -> Result<Mode, BadLine>
+    ensures { result ≡ mode_at (looking (view value.now)) }
+{
+    match value.get(Key::Mode.text()).and_then(mode) {
+        None => Err(BadLine::BadField(Field::Mode)),
+        Some(mode) => Ok(mode),
+    }
+}

@@ -1,0 +1,195 @@
+//! A function for each row of the table of commands, and the row of a word.
+ghost use Rattle.std.specs.Prelude.{Result, ◌≡◌};
+ghost use Rattle.serde_json.specs.View.{view};
+ghost use Rattle.pm_model.specs.Asked.{access_of, admin_of, assign_of, associate_of, close_session_of, create_of, create_pc_of, deassign_of, define_right_of, delete_of, dissociate_of, end_process_of, ends_of, lift_of, looking, open_session_of, prohibit_of, row_of, start_process_of};
+ghost use Rattle.pm_model.specs.declared.lines.BadLine.{BadLine};
+ghost use Rattle.pm_model.specs.declared.requests.Command.{Command};
+ghost use Rattle.pm_json.specs.Reads.{Reads, ReadsRow};
+
+use crate::errors::ReadError;
+use crate::forms::{mode_at, name_at, number_at, process, rights_at, sets, subject_at};
+use pm_model::{BadLine, Body, Command, Field, Key, Kind, Name};
+use serde_json::Value;
+use std::alloc::Global;
+
+fn open_session(value: &Value) -> Result<Body, ReadError>
+    ensures { Reads result (open_session_of (looking (view value.now))) }
+{
+    let user = name_at(Field::User, Key::User, value)?;
+    Ok(Body::OpenSession { user })
+}
+
+fn close_session(value: &Value) -> Result<Body, ReadError>
+    ensures { Reads result (close_session_of (looking (view value.now))) }
+{
+    let session = number_at(Field::Session, Key::Session, value)?;
+    Ok(Body::CloseSession { session })
+}
+
+fn start_process(value: &Value) -> Result<Body, ReadError>
+    ensures { Reads result (start_process_of (looking (view value.now))) }
+{
+    let session = number_at(Field::Session, Key::Session, value)?;
+    Ok(Body::StartProcess { session })
+}
+
+fn end_process(value: &Value) -> Result<Body, ReadError>
+    ensures { Reads result (end_process_of (looking (view value.now))) }
+{
+    let process = number_at(Field::Process, Key::Process, value)?;
+    Ok(Body::EndProcess { process })
+}
+
+fn create_pc(value: &Value) -> Result<Command, BadLine>
+    ensures { result ≡ create_pc_of (looking (view value.now)) }
+{
+    let name = name_at(Field::Name, Key::Name, value)?;
+    Ok(Command::CreatePc { name })
+}
+
+fn create(kind: Kind, value: &Value) -> Result<Command, BadLine>
+    ensures { result ≡ create_of (looking (view value.now)) kind }
+{
+    let name = name_at(Field::Name, Key::Name, value)?;
+    let into = name_at(Field::Into, Key::Into, value)?;
+    Ok(Command::Create { kind, name, into })
+}
+
+fn delete(value: &Value) -> Result<Command, BadLine>
+    ensures { result ≡ delete_of (looking (view value.now)) }
+{
+    let name = name_at(Field::Name, Key::Name, value)?;
+    Ok(Command::Delete { name })
+}
+
+// The fields `from` and `to`.
+fn ends(value: &Value) -> Result<(Name, Name), BadLine>
+    ensures { result ≡ ends_of (looking (view value.now)) }
+{
+    let from = name_at(Field::From, Key::From, value)?;
+    let to = name_at(Field::To, Key::To, value)?;
+    Ok((from, to))
+}
+
+fn assign(value: &Value) -> Result<Command, BadLine>
+    ensures { result ≡ assign_of (looking (view value.now)) }
+{
+    let (from, to) = ends(value)?;
+    Ok(Command::Assign { from, to })
+}
+
+fn deassign(value: &Value) -> Result<Command, BadLine>
+    ensures { result ≡ deassign_of (looking (view value.now)) }
+{
+    let (from, to) = ends(value)?;
+    Ok(Command::Deassign { from, to })
+}
+
+fn associate(alloc: Global, value: &Value) -> Result<Command, ReadError>
+    ensures { Reads result (associate_of (looking (view value.now))) }
+{
+    let ua = name_at(Field::Ua, Key::Ua, value)?;
+    let rights = rights_at(alloc, value)?;
+    let at = name_at(Field::At, Key::At, value)?;
+    Ok(Command::Associate { ua, rights, at })
+}
+
+fn dissociate(value: &Value) -> Result<Command, BadLine>
+    ensures { result ≡ dissociate_of (looking (view value.now)) }
+{
+    let ua = name_at(Field::Ua, Key::Ua, value)?;
+    let at = name_at(Field::At, Key::At, value)?;
+    Ok(Command::Dissociate { ua, at })
+}
+
+fn prohibit(alloc: Global, value: &Value) -> Result<Command, ReadError>
+    ensures { Reads result (prohibit_of (looking (view value.now))) }
+{
+    let name = name_at(Field::Name, Key::Name, value)?;
+    let subject = subject_at(value)?;
+    let rights = rights_at(alloc, value)?;
+    let (inc, exc) = sets(alloc, value)?;
+    let mode = mode_at(value)?;
+    Ok(Command::Prohibit {
+        name,
+        subject,
+        rights,
+        inc,
+        exc,
+        mode,
+    })
+}
+
+fn lift(value: &Value) -> Result<Command, BadLine>
+    ensures { result ≡ lift_of (looking (view value.now)) }
+{
+    let name = name_at(Field::Name, Key::Name, value)?;
+    Ok(Command::Lift { name })
+}
+
+fn define_right(value: &Value) -> Result<Command, BadLine>
+    ensures { result ≡ define_right_of (looking (view value.now)) }
+{
+    let name = name_at(Field::Name, Key::Name, value)?;
+    Ok(Command::DefineRight { name })
+}
+
+fn access(value: &Value) -> Result<Body, ReadError>
+    ensures { Reads result (access_of (looking (view value.now))) }
+{
+    let process = process(value)?;
+    let right = name_at(Field::Right, Key::Right, value)?;
+    let target = name_at(Field::Target, Key::Target, value)?;
+    Ok(Body::Access {
+        process,
+        right,
+        target,
+    })
+}
+
+fn admin(command: Result<Command, ReadError>, value: &Value) -> Result<Body, ReadError>
+    ensures { (c : Result Command BadLine) → Reads command c → Reads result (admin_of (looking (view value.now)) c) }
+{
+    let process = process(value)?;
+    let command = command?;
+    Ok(Body::Admin { process, command })
+}
+
+// The same, of a command whose reading takes no memory.
+fn plain_admin(command: Result<Command, BadLine>, value: &Value) -> Result<Body, ReadError>
+    ensures { Reads result (admin_of (looking (view value.now)) command) }
+{
+    match command {
+        Ok(command) => admin(Ok(command), value),
+        Err(bad) => admin(Err(ReadError::Bad(bad)), value),
+    }
+}
+
+/// The row of the word, where it is one.
+#[tactic(auto, unfolding(pm_model::specs::Words::word_text))]
+pub(crate) fn row(alloc: Global, word: &str, value: &Value) -> Option<Result<Body, ReadError>>
+    ensures { ReadsRow result (row_of (looking (view value.now)) word.now) }
+{
+    match word {
+        "version" => Some(Ok(Body::Version)),
+        "open_session" => Some(open_session(value)),
+        "close_session" => Some(close_session(value)),
+        "start_process" => Some(start_process(value)),
+        "end_process" => Some(end_process(value)),
+        "create_pc" => Some(plain_admin(create_pc(value), value)),
+        "create_user" => Some(plain_admin(create(Kind::User, value), value)),
+        "create_ua" => Some(plain_admin(create(Kind::Ua, value), value)),
+        "create_oa" => Some(plain_admin(create(Kind::Oa, value), value)),
+        "create_object" => Some(plain_admin(create(Kind::Object, value), value)),
+        "delete" => Some(plain_admin(delete(value), value)),
+        "assign" => Some(plain_admin(assign(value), value)),
+        "deassign" => Some(plain_admin(deassign(value), value)),
+        "associate" => Some(admin(associate(alloc, value), value)),
+        "dissociate" => Some(plain_admin(dissociate(value), value)),
+        "prohibit" => Some(admin(prohibit(alloc, value), value)),
+        "lift" => Some(plain_admin(lift(value), value)),
+        "define_right" => Some(plain_admin(define_right(value), value)),
+        "access" => Some(access(value)),
+        _ => None,
+    }
+}

@@ -1,0 +1,261 @@
+//! Replies, and their lines.
+use crate::{print_bad, print_reply};
+use pm_model::{BadLine, ElementId, Field, Name, NameOf, Reason, Refusal, Reply, Shown, Table};
+use std::alloc::Global;
+use std::process::Abort;
+use std::test::Fail;
+
+const MOST: Option<u64> = Some(18446744073709551615);
+
+// Element 0 has one name, and every other the other.
+#[derive(Drop)]
+struct TwoNames {
+    zero: Name,
+    other: Name,
+}
+
+impl NameOf for TwoNames {
+    ghost use Rattle.std.specs.Prelude.{true, ◌==◌, if◌then◌else◌};
+
+    ghost named = { λ names n. true };
+
+    ghost name_at = { λ names n. if n == 0 then names.zero else names.other };
+
+    fn name_of(&self, id: ElementId) -> Name {
+        if id.number() == 0 {
+            self.zero
+        } else {
+            self.other
+        }
+    }
+}
+
+fn names() -> Result<TwoNames, Fail> {
+    Ok(TwoNames {
+        zero: Name::new(b"files").ok_or("a name")?,
+        other: Name::new(b"memo").ok_or("a name")?,
+    })
+}
+
+// The lines of bad forms, at version 6.
+const BAD: [(Option<u64>, BadLine, &str); 5] = [
+    (None, BadLine::TooLong, r#"{"no":"too_long","v":6}"#),
+    (None, BadLine::NotJson, r#"{"no":"not_json","v":6}"#),
+    (
+        Some(0),
+        BadLine::NotRequest,
+        r#"{"id":0,"no":"not_request","v":6}"#,
+    ),
+    (
+        MOST,
+        BadLine::UnknownCommand,
+        r#"{"id":18446744073709551615,"no":"unknown_command","v":6}"#,
+    ),
+    (
+        None,
+        BadLine::BadField(Field::Id),
+        r#"{"field":"id","no":"bad_field","v":6}"#,
+    ),
+];
+
+#[test]
+fn bad_forms_have_lines(rt: HostRuntime) -> Result<(), Fail> {
+    for (id, bad, line) in &BAD {
+        let mut out = Vec::new(rt.alloc());
+        print_bad(*id, 6, bad, &mut out)?;
+        print_reply(*id, 6, &Reply::Bad(*bad), &names()?, &mut out)?;
+        let twice = format!(in rt.alloc(); "{line}\n{line}\n")?;
+        assert_eq!(rt; out.as_slice(), twice.as_bytes(), "of {line}");
+    }
+    Ok(())
+}
+
+const FIELDS: [(Field, &str); 19] = [
+    (Field::Id, "id"),
+    (Field::After, "after"),
+    (Field::Proc, "proc"),
+    (Field::Process, "process"),
+    (Field::Session, "session"),
+    (Field::Name, "name"),
+    (Field::Into, "into"),
+    (Field::From, "from"),
+    (Field::To, "to"),
+    (Field::Ua, "ua"),
+    (Field::At, "at"),
+    (Field::User, "user"),
+    (Field::Target, "target"),
+    (Field::Right, "right"),
+    (Field::Rights, "rights"),
+    (Field::Inc, "inc"),
+    (Field::Exc, "exc"),
+    (Field::Mode, "mode"),
+    (Field::Subject, "subject"),
+];
+
+#[test]
+fn bad_fields_have_words(rt: HostRuntime) -> Result<(), Fail> {
+    for (field, word) in &FIELDS {
+        let bad = Reply::Bad(BadLine::BadField(*field));
+        let line = format!(in rt.alloc(); r#"{{"field":"{word}","id":1,"no":"bad_field","v":6}}"#)?;
+        prints(&rt, Some(1), 6, &bad, line.as_str())?;
+    }
+    Ok(())
+}
+
+fn prints(
+    rt: &(impl Abort + Alloc<A = Global>),
+    id: Option<u64>,
+    version: u64,
+    reply: &Reply,
+    line: &str,
+) -> Result<(), Fail> {
+    let mut out = Vec::new(rt.alloc());
+    print_reply(id, version, reply, &names()?, &mut out)?;
+    let told = format!(in rt.alloc(); "{line}\n")?;
+    assert_eq!(rt; out.as_slice(), told.as_bytes(), "of {line}");
+    Ok(())
+}
+
+const DONE: [(Option<u64>, u64, Shown, &str); 5] = [
+    (
+        Some(1),
+        18446744073709551615,
+        Shown::Nothing,
+        r#"{"id":1,"ok":"done","v":18446744073709551615}"#,
+    ),
+    (None, 0, Shown::Nothing, r#"{"ok":"done","v":0}"#),
+    (
+        None,
+        8,
+        Shown::Session(1),
+        r#"{"ok":"done","session":1,"v":8}"#,
+    ),
+    (
+        None,
+        9,
+        Shown::Process(1),
+        r#"{"ok":"done","process":1,"v":9}"#,
+    ),
+    (
+        Some(7),
+        10,
+        Shown::Process(4294967295),
+        r#"{"id":7,"ok":"done","process":4294967295,"v":10}"#,
+    ),
+];
+
+#[test]
+fn what_is_made_has_lines(rt: HostRuntime) -> Result<(), Fail> {
+    for (id, version, shown, line) in &DONE {
+        prints(&rt, *id, *version, &Reply::Done { shown: *shown }, line)?;
+    }
+    Ok(())
+}
+
+#[test]
+fn replies_have_lines(rt: HostRuntime) -> Result<(), Fail> {
+    prints(
+        &rt,
+        Some(4),
+        11,
+        &Reply::Granted,
+        r#"{"id":4,"ok":"granted","v":11}"#,
+    )?;
+    prints(
+        &rt,
+        Some(2),
+        5,
+        &Reply::Ahead,
+        r#"{"id":2,"no":"ahead","v":5}"#,
+    )?;
+    let name = Name::new(b"staff").ok_or("a name")?;
+    let unknown = Reply::Refused(Refusal::UnknownName { name });
+    prints(
+        &rt,
+        Some(3),
+        5,
+        &unknown,
+        r#"{"id":3,"name":"staff","no":"unknown_name","v":5}"#,
+    )
+}
+
+#[test]
+fn refusals_have_words(rt: HostRuntime) -> Result<(), Fail> {
+    let refusals = [
+        (Reply::Refused(Refusal::UnknownProcess), "unknown_process"),
+        (Reply::Refused(Refusal::UnknownSession), "unknown_session"),
+        (Reply::Refused(Refusal::BadKinds), "bad_kinds"),
+        (Reply::Refused(Refusal::NameTaken), "name_taken"),
+        (Reply::Refused(Refusal::Already), "already"),
+        (Reply::Refused(Refusal::Absent), "absent"),
+        (Reply::Refused(Refusal::Cycle), "cycle"),
+        (Reply::Refused(Refusal::Occupied), "occupied"),
+        (Reply::Refused(Refusal::InUse), "in_use"),
+        (Reply::Refused(Refusal::LastContainer), "last_container"),
+        (Reply::Refused(Refusal::Builtin), "builtin"),
+        (Reply::Refused(Refusal::EmptyRange), "empty_range"),
+    ];
+    for (reply, word) in &refusals {
+        let line = format!(in rt.alloc(); r#"{{"no":"{word}","v":8}}"#)?;
+        prints(&rt, None, 8, reply, line.as_str())?;
+    }
+    Ok(())
+}
+
+const TABLES: [(Table, &str); 8] = [
+    (Table::Elements, "elements"),
+    (Table::Assignments, "assignments"),
+    (Table::Associations, "associations"),
+    (Table::Prohibitions, "prohibitions"),
+    (Table::Sessions, "sessions"),
+    (Table::Processes, "processes"),
+    (Table::Rights, "rights"),
+    (Table::History, "history"),
+];
+
+#[test]
+fn tables_have_words(rt: HostRuntime) -> Result<(), Fail> {
+    for (table, word) in &TABLES {
+        let full = Reply::Refused(Refusal::Full(*table));
+        let line = format!(in rt.alloc(); r#"{{"no":"full","table":"{word}","v":8}}"#)?;
+        prints(&rt, None, 8, &full, line.as_str())?;
+    }
+    Ok(())
+}
+
+fn denied(right: &[u8], target: u32, reason: Reason) -> Result<Refusal, Fail> {
+    Ok(Refusal::Denied {
+        right: Name::new(right).ok_or("a name")?,
+        target: ElementId(target),
+        reason,
+    })
+}
+
+#[test]
+fn denials_have_lines(rt: HostRuntime) -> Result<(), Fail> {
+    let read = denied(b"read", 6, Reason::Class(ElementId(0)))?;
+    prints(
+        &rt,
+        None,
+        5,
+        &Reply::Refused(read),
+        r#"{"class":"files","no":"denied","right":"read","target":"memo","v":5}"#,
+    )?;
+    let write = denied(b"write", 0, Reason::Class(ElementId(3)))?;
+    prints(
+        &rt,
+        Some(7),
+        6,
+        &Reply::Refused(write),
+        r#"{"class":"memo","id":7,"no":"denied","right":"write","target":"files","v":6}"#,
+    )?;
+    let lock = Name::new(b"lock").ok_or("a name")?;
+    let barred = denied(b"read", 6, Reason::Prohibition(lock))?;
+    prints(
+        &rt,
+        Some(8),
+        14,
+        &Reply::Refused(barred),
+        r#"{"id":8,"no":"denied","prohibition":"lock","right":"read","target":"memo","v":14}"#,
+    )
+}

@@ -1,0 +1,135 @@
+-- What a refusal of names or of preconditions tells has names: it tells no element by its number.
+use Rattle.std.proofs.Common.{◌≡◌, ℕ, Bool, List, [], ◌∷◌, Option, Some, None, IfSome, Result, Ok, Err, IfErr, MatchResult, refl}
+use Rattle.std.specs.Bool.{⊤}
+use Rattle.std.specs.List.{list_any}
+use Rattle.std.proofs.lemmas.Bool.{cond_both}
+use Rattle.pm_model.specs.Results.{and_then, first_of, unless}
+use Rattle.pm_model.specs.State.{Graph, number_named}
+use Rattle.pm_model.specs.RightSet.{bit_named, with_right}
+use Rattle.pm_model.specs.Sessions.{is_process}
+use Rattle.pm_model.specs.Prohibitions.{place_called}
+use Rattle.pm_model.specs.Resolve.{unused, known, look_up, look_up_both, look_up_all, look_up_rights, look_up_process, look_up_subject, prohibition, resolve}
+use Rattle.pm_model.specs.Effect.{checks, refusal, changed, effect}
+use Rattle.pm_model.specs.Nameable.{IsRefusalNameable}
+use Rattle.pm_model.specs.Formed.{Each}
+use Rattle.pm_model.specs.declared.requests.Command.{Command}
+use Rattle.pm_model.specs.declared.requests.Command.TheVariants as command
+use Rattle.pm_model.specs.declared.requests.Change.{Change}
+use Rattle.pm_model.specs.declared.requests.Change.TheVariants.{Create, Delete, Assign, Deassign, Associate, Dissociate, OpenSession, CloseSession, StartProcess, EndProcess, Prohibit, Lift, DefineRight}
+use Rattle.pm_model.specs.declared.prohibitions.Subject.{Subject}
+use Rattle.pm_model.specs.declared.prohibitions.Subject.TheVariants as subject
+use Rattle.pm_model.specs.declared.replies.Refusal.{Refusal}
+use Rattle.pm_model.specs.declared.replies.Refusal.TheVariants.{UnknownProcess}
+
+-- ---- steps in order
+
+module _ {A B E : Type 0} (P : B → Type 0) (Q : E → Type 0) where
+  -- what holds of the first step's error, and of the second step's outcome
+  pub and_then-of : (r : Result A E) (f : A → Result B E) → IfErr r Q → ((a : A) → r ≡ Ok a → MatchResult (f a) P Q) →
+      MatchResult (and_then r f) P Q
+  and_then-of (Ok a) f first second = second a refl
+  and_then-of (Err e) f first second = first
+
+module _ {E : Type 0} (Q : E → Type 0) where
+  first_of-each : (tests : List (Bool × E)) → Each (λ test. Q test.1) tests → IfSome (first_of tests) Q
+  first_of-each [] h = tt
+  first_of-each (test ∷ tests) h =
+      cond_both test.0 (Some test.1) (first_of tests) (λ why. IfSome why Q) (λ is. h.0) (λ is. first_of-each tests h.1)
+
+  pub unless-err : {A : Type 0} (why : Option E) (new : A) → IfSome why Q → IfErr (unless why new) Q
+  unless-err (Some why) new h = h
+  unless-err None new h = tt
+
+module _ (named : ℕ → Bool) where
+  -- the refusal's elements have names
+  abbrev pub IsTellable : Refusal → Type 0
+  IsTellable = IsRefusalNameable named
+
+  -- ---- names
+
+  abbrev pub IsTold : {A : Type 0} → Result A Refusal → Type 0
+  IsTold r = IfErr r IsTellable
+
+  pub then-told : {A B : Type 0} (r : Result A Refusal) (f : A → Result B Refusal) → IsTold r → ((a : A) → IsTold (f a)) → IsTold (and_then r f)
+  then-told r f first second = and_then-of (λ _. ⊤) IsTellable r f first (λ a is. second a)
+
+  known-told : (name : List ℕ) (o : Option ℕ) → IsTold (known name o)
+  known-told name (Some n) = tt
+  known-told name None = tt
+
+  pub look_up-told : (G : Graph) (name : List ℕ) → IsTold (look_up G name)
+  look_up-told G name = known-told name (number_named G.elements name)
+
+  both-told : (G : Graph) (first second : List ℕ) → IsTold (look_up_both G first second)
+  both-told G first second =
+      then-told (look_up G first) (λ x. and_then (look_up G second) (λ y. Ok (x, y))) (look_up-told G first)
+      (λ x. then-told (look_up G second) (λ y. Ok (x, y)) (look_up-told G second) (λ y. tt))
+
+  all-told : (G : Graph) (names : List (List ℕ)) → IsTold (look_up_all G names)
+  all-told G [] = tt
+  all-told G (n ∷ ns) =
+      then-told (look_up G n) (λ x. and_then (look_up_all G ns) (λ xs. Ok (x ∷ xs))) (look_up-told G n)
+      (λ x. then-told (look_up_all G ns) (λ xs. Ok (x ∷ xs)) (all-told G ns) (λ xs. tt))
+
+  rights-told : (G : Graph) (names : List (List ℕ)) → IsTold (look_up_rights G names)
+  rights-told G [] = tt
+  rights-told G (n ∷ ns) =
+      then-told (known n (bit_named G.rights n)) (λ bit. and_then (look_up_rights G ns) (λ rights. Ok (with_right bit rights)))
+      (known-told n (bit_named G.rights n))
+      (λ bit. then-told (look_up_rights G ns) (λ rights. Ok (with_right bit rights)) (rights-told G ns) (λ rights. tt))
+
+  process-told : (G : Graph) (n : ℕ) → IsTold (look_up_process G n)
+  process-told G n =
+      cond_both (list_any (is_process n) G.procs.processes) (Ok n) (Err UnknownProcess) (λ (r : Result ℕ Refusal). IsTold r) (λ is. tt) (λ is. tt)
+
+  subject-told : (G : Graph) (s : Subject (List ℕ) ℕ) → IsTold (look_up_subject G s)
+  subject-told G (subject.User name) = then-told (look_up G name) (λ n. Ok (subject.User n)) (look_up-told G name) (λ n. tt)
+  subject-told G (subject.Ua name) = then-told (look_up G name) (λ n. Ok (subject.Ua n)) (look_up-told G name) (λ n. tt)
+  subject-told G (subject.Process p) = then-told (look_up_process G p) (λ n. Ok (subject.Process n)) (process-told G p) (λ n. tt)
+
+  pub resolve-told : (G : Graph) (c : Command) → IsTold (resolve G c)
+  resolve-told G (command.CreatePc name) = tt
+  resolve-told G (command.Create kind name into) =
+      then-told (look_up G into) (λ c. Ok (Create (unused G.elements) kind name (Some c))) (look_up-told G into) (λ c. tt)
+  resolve-told G (command.Delete name) = then-told (look_up G name) (λ n. Ok (Delete n)) (look_up-told G name) (λ n. tt)
+  resolve-told G (command.Assign from to) =
+      then-told (look_up_both G from to) (λ p. Ok (Assign p.0 p.1)) (both-told G from to) (λ p. tt)
+  resolve-told G (command.Deassign from to) =
+      then-told (look_up_both G from to) (λ p. Ok (Deassign p.0 p.1)) (both-told G from to) (λ p. tt)
+  resolve-told G (command.Associate ua rights at) =
+      then-told (look_up G ua) (λ u. and_then (look_up_rights G rights) (λ r. and_then (look_up G at) (λ t. Ok (Associate u r t)))) (look_up-told G ua)
+      (λ u. then-told (look_up_rights G rights) (λ r. and_then (look_up G at) (λ t. Ok (Associate u r t))) (rights-told G rights)
+      (λ r. then-told (look_up G at) (λ t. Ok (Associate u r t)) (look_up-told G at) (λ t. tt)))
+  resolve-told G (command.Dissociate ua at) =
+      then-told (look_up_both G ua at) (λ p. Ok (Dissociate p.0 p.1)) (both-told G ua at) (λ p. tt)
+  resolve-told G (command.Prohibit name s rights inc exc mode) =
+      then-told (look_up_subject G s) (λ t. and_then (look_up_rights G rights) (λ r. and_then (look_up_all G inc) (λ i.
+      and_then (look_up_all G exc) (λ e. Ok (Prohibit (prohibition name t r i e mode)))))) (subject-told G s)
+      (λ t. then-told (look_up_rights G rights) (λ r. and_then (look_up_all G inc) (λ i. and_then (look_up_all G exc) (λ e.
+      Ok (Prohibit (prohibition name t r i e mode))))) (rights-told G rights)
+      (λ r. then-told (look_up_all G inc) (λ i. and_then (look_up_all G exc) (λ e. Ok (Prohibit (prohibition name t r i e mode)))) (all-told G inc)
+      (λ i. then-told (look_up_all G exc) (λ e. Ok (Prohibit (prohibition name t r i e mode))) (all-told G exc) (λ e. tt))))
+  resolve-told G (command.Lift name) =
+      then-told (known name (place_called G.prohibitions name)) (λ i. Ok (Lift i)) (known-told name (place_called G.prohibitions name)) (λ i. tt)
+  resolve-told G (command.DefineRight name) = tt
+
+  -- ---- preconditions
+
+  checks-told : (G : Graph) (change : Change) → Each (λ check. IsTellable check.1) (checks G change)
+  checks-told G (Create id kind name into) = (tt, (tt, (tt, (tt, tt))))
+  checks-told G (Delete id) = (tt, (tt, (tt, tt)))
+  checks-told G (Assign x y) = (tt, (tt, (tt, (tt, tt))))
+  checks-told G (Deassign x y) = (tt, (tt, (tt, tt)))
+  checks-told G (Associate u r t) = (tt, (tt, (tt, tt)))
+  checks-told G (Dissociate u t) = (tt, tt)
+  checks-told G (OpenSession u) = (tt, (tt, tt))
+  checks-told G (CloseSession n) = (tt, (tt, tt))
+  checks-told G (StartProcess n) = (tt, (tt, tt))
+  checks-told G (EndProcess n) = (tt, (tt, tt))
+  checks-told G (Prohibit p) = (tt, (tt, (tt, (tt, tt))))
+  checks-told G (Lift i) = tt
+  checks-told G (DefineRight name) = (tt, (tt, tt))
+
+  pub effect-told : (G : Graph) (change : Change) → IsTold (effect G change)
+  effect-told G change =
+      unless-err IsTellable (refusal G change) (changed G change) (first_of-each IsTellable (checks G change) (checks-told G change))

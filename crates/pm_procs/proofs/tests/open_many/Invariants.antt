@@ -1,0 +1,6 @@
+use Rattle.std.proofs.Common.{◌≡◌, ◌+◌}
+use Rattle.pm_procs.proofs.tests.open_many.Given as goal
+
+abbrev pub invariant-loop : goal.invariant-loop
+invariant-loop l =
+    (l.table.next_session ≡ l.initial.table.next_session + l.counter) × (l.table.next_process ≡ l.initial.table.next_process)

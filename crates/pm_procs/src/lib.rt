@@ -1,0 +1,13 @@
+//! The table of sessions and processes.
+#![tactic(auto)]
+
+mod checks;
+mod errors;
+mod numbered;
+mod table;
+
+pub use errors::{ProcsError, process_error, session_error};
+pub use table::Procs;
+
+#[cfg(test)]
+mod tests;

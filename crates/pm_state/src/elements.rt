@@ -1,0 +1,224 @@
+//! Changes of elements and their assignments.
+
+ghost use Rattle.std.specs.Prelude.{◌≡◌, ◌||◌, OnOk, OnErr, IfOk, IfErr, IfSome, None, Some};
+ghost use Rattle.std.specs.List.{list_any};
+ghost use Rattle.pm_model.specs.Results.{first_of};
+ghost use Rattle.pm_model.specs.Decision.{associations_of};
+ghost use Rattle.pm_model.specs.Prohibitions.{names_element};
+ghost use Rattle.pm_model.specs.Effect.{refusal, effect, create_checks, is_builtin, is_builtin_element, has_end, is_in_use, IsCause};
+ghost use Rattle.pm_model.specs.Formed.{IsNamed, IsLive};
+ghost use Rattle.pm_state.specs.Classes.{placed_number, with_class, without_number};
+ghost use Rattle.pm_state.specs.Shown.{graph_of};
+
+use crate::classes::{place, take_out};
+use crate::tables::Tables;
+use pm_model::{Change, ChangeError, ElementId, Kind, Made, Memory, Name, Refusal};
+
+fn is_builtin(x: ElementId, y: ElementId) -> bool
+    ensures { result ≡ is_builtin x y }
+{
+    (x == ElementId(1) && y == ElementId(0)) || (x == ElementId(2) && y == ElementId(1))
+}
+
+fn is_builtin_element(id: ElementId) -> bool
+    ensures { result ≡ is_builtin_element id }
+{
+    id.number() < 3
+}
+
+impl Tables {
+    // A new policy class stands in the list of classes first, which can be taken back where the table then has no memory.
+    fn create_class(&mut self, id: ElementId, name: Name) -> Result<Made, ChangeError>
+        requires { IsNamed (graph_of self.old) (Change.Create id Kind.Pc name None) }
+        ensures ok { OnOk result (effect (graph_of self.old) (Change.Create id Kind.Pc name None) ≡ Ok (graph_of self.new)) }
+        ensures made { IfOk result (λ m. m ≡ Made.Element id) }
+        ensures refused { IfErr result (IsCause (refusal (graph_of self.old) (Change.Create id Kind.Pc name None))) }
+        ensures classes { OnOk result (self.new.classes ≡ placed_number id self.old.classes) }
+        ensures err { OnErr result (self.new ≡ self.old) }
+    {
+        match self.elements.check_create(Kind::Pc, name, None) {
+            Ok(()) => {}
+            Err(error) => return Err(pm_elements::change_error(error)),
+        }
+        let place = match place(&mut self.classes, id) {
+            Ok(place) => place,
+            Err(Memory) => return Err(ChangeError::Memory),
+        };
+        match self.elements.create(Kind::Pc, name, None) {
+            Ok(number) => Ok(Made::Element(number)),
+            Err(error) => {
+                self.classes.remove(place);
+                Err(pm_elements::change_error(error))
+            }
+        }
+    }
+
+    // An element in a container.
+    fn create_in(
+        &mut self,
+        id: ElementId,
+        kind: Kind,
+        name: Name,
+        into: ElementId,
+    ) -> Result<Made, ChangeError>
+        requires { IsNamed (graph_of self.old) (Change.Create id kind name (Some into)) }
+        ensures ok { OnOk result (effect (graph_of self.old) (Change.Create id kind name (Some into)) ≡ Ok (graph_of self.new)) }
+        ensures made { IfOk result (λ m. m ≡ Made.Element id) }
+        ensures refused { IfErr result (IsCause (refusal (graph_of self.old) (Change.Create id kind name (Some into)))) }
+        ensures classes { OnOk result (self.new.classes ≡ with_class kind id self.old.classes) }
+        ensures err { OnErr result (self.new ≡ self.old) }
+    {
+        if kind == Kind::Pc {
+            return Err(ChangeError::Refused(Refusal::BadKinds));
+        }
+        match self.elements.create(kind, name, Some(into)) {
+            Ok(number) => Ok(Made::Element(number)),
+            Err(error) => Err(pm_elements::change_error(error)),
+        }
+    }
+
+    /// Without a container the kind is a class's.
+    pub(crate) fn create(
+        &mut self,
+        id: ElementId,
+        kind: Kind,
+        name: Name,
+        into: Option<ElementId>,
+    ) -> Result<Made, ChangeError>
+        requires { IsNamed (graph_of self.old) (Change.Create id kind name into) }
+        ensures ok { OnOk result (effect (graph_of self.old) (Change.Create id kind name into) ≡ Ok (graph_of self.new)) }
+        ensures made { IfOk result (λ m. m ≡ Made.Element id) }
+        ensures refused { IfErr result (IsCause (refusal (graph_of self.old) (Change.Create id kind name into))) }
+        ensures classes { OnOk result (self.new.classes ≡ with_class kind id self.old.classes) }
+        ensures err { OnErr result (self.new ≡ self.old) }
+    {
+        match into {
+            None => self.create_class(id, name),
+            Some(into) => self.create_in(id, kind, name, into),
+        }
+    }
+
+    pub(crate) fn check_create(
+        &self,
+        kind: Kind,
+        name: Name,
+        into: Option<ElementId>,
+    ) -> Result<(), ChangeError>
+        requires { IfSome into (IsLive self.now.elements.elements) }
+        ensures ok { OnOk result (first_of (create_checks self.now.elements.elements self.now.elements.assigned kind name into) ≡ None) }
+        ensures refused { IfErr result (IsCause (first_of (create_checks self.now.elements.elements self.now.elements.assigned kind name into))) }
+    {
+        match self.elements.check_create(kind, name, into) {
+            Ok(()) => Ok(()),
+            Err(error) => Err(pm_elements::change_error(error)),
+        }
+    }
+
+    // Whether an association or a prohibition names the element.
+    fn is_in_a_rule(&self, id: ElementId) -> bool
+        ensures { result ≡ (list_any (has_end id) (associations_of self.now.assoc) || list_any (names_element id) self.now.deny) }
+    {
+        self.assoc.names(id) || self.deny.names(id)
+    }
+
+    fn is_in_use(&self, id: ElementId) -> bool
+        ensures { result ≡ is_in_use (graph_of self.now) id }
+    {
+        self.is_in_a_rule(id) || self.procs.has_session(id)
+    }
+
+    /// It takes no memory. It looks at each association, prohibition and session.
+    pub(crate) fn delete(&mut self, id: ElementId) -> Result<Made, ChangeError>
+        requires { IsNamed (graph_of self.old) (Change.Delete id) }
+        ensures ok { OnOk result (effect (graph_of self.old) (Change.Delete id) ≡ Ok (graph_of self.new)) }
+        ensures made { IfOk result (λ m. m ≡ Made.Nothing) }
+        ensures refused { IfErr result (IsCause (refusal (graph_of self.old) (Change.Delete id))) }
+        ensures classes { OnOk result (self.new.classes ≡ without_number id self.old.classes) }
+        ensures err { OnErr result (self.new ≡ self.old) }
+    {
+        match self.check_delete(id) {
+            Ok(()) => {}
+            Err(error) => return Err(error),
+        }
+        match self.elements.remove(id) {
+            Ok(()) => {
+                take_out(&mut self.classes, id);
+                Ok(Made::Nothing)
+            }
+            Err(error) => Err(pm_elements::change_error(error)),
+        }
+    }
+
+    pub(crate) fn check_delete(&self, id: ElementId) -> Result<(), ChangeError>
+        requires { IsNamed (graph_of self.now) (Change.Delete id) }
+        ensures ok { OnOk result (refusal (graph_of self.now) (Change.Delete id) ≡ None) }
+        ensures refused { IfErr result (IsCause (refusal (graph_of self.now) (Change.Delete id))) }
+    {
+        if is_builtin_element(id) {
+            return Err(ChangeError::Refused(Refusal::Builtin));
+        }
+        if self.elements.has_children(id) {
+            return Err(ChangeError::Refused(Refusal::Occupied));
+        }
+        if self.is_in_use(id) {
+            return Err(ChangeError::Refused(Refusal::InUse));
+        }
+        Ok(())
+    }
+
+    pub(crate) fn check_assign(&self, from: ElementId, to: ElementId) -> Result<(), ChangeError>
+        requires { IsNamed (graph_of self.now) (Change.Assign from to) }
+        ensures ok { OnOk result (refusal (graph_of self.now) (Change.Assign from to) ≡ None) }
+        ensures refused { IfErr result (IsCause (refusal (graph_of self.now) (Change.Assign from to))) }
+    {
+        match self.elements.check_assign(from, to) {
+            Ok(()) => Ok(()),
+            Err(error) => Err(pm_elements::change_error(error)),
+        }
+    }
+
+    pub(crate) fn assign(&mut self, from: ElementId, to: ElementId) -> Result<Made, ChangeError>
+        requires { IsNamed (graph_of self.old) (Change.Assign from to) }
+        ensures ok { OnOk result (effect (graph_of self.old) (Change.Assign from to) ≡ Ok (graph_of self.new)) }
+        ensures made { IfOk result (λ m. m ≡ Made.Nothing) }
+        ensures refused { IfErr result (IsCause (refusal (graph_of self.old) (Change.Assign from to))) }
+        ensures classes { self.new.classes ≡ self.old.classes }
+        ensures err { OnErr result (self.new ≡ self.old) }
+    {
+        match self.elements.assign(from, to) {
+            Ok(()) => Ok(Made::Nothing),
+            Err(error) => Err(pm_elements::change_error(error)),
+        }
+    }
+
+    pub(crate) fn deassign(&mut self, from: ElementId, to: ElementId) -> Result<Made, ChangeError>
+        requires { IsNamed (graph_of self.old) (Change.Deassign from to) }
+        ensures ok { OnOk result (effect (graph_of self.old) (Change.Deassign from to) ≡ Ok (graph_of self.new)) }
+        ensures made { IfOk result (λ m. m ≡ Made.Nothing) }
+        ensures refused { IfErr result (IsCause (refusal (graph_of self.old) (Change.Deassign from to))) }
+        ensures classes { self.new.classes ≡ self.old.classes }
+        ensures err { OnErr result (self.new ≡ self.old) }
+    {
+        if is_builtin(from, to) {
+            return Err(ChangeError::Refused(Refusal::Builtin));
+        }
+        match self.elements.deassign(from, to) {
+            Ok(()) => Ok(Made::Nothing),
+            Err(error) => Err(pm_elements::change_error(error)),
+        }
+    }
+
+    pub(crate) fn check_deassign(&self, from: ElementId, to: ElementId) -> Result<(), ChangeError>
+        requires { IsNamed (graph_of self.now) (Change.Deassign from to) }
+        ensures ok { OnOk result (refusal (graph_of self.now) (Change.Deassign from to) ≡ None) }
+        ensures refused { IfErr result (IsCause (refusal (graph_of self.now) (Change.Deassign from to))) }
+    {
+        if is_builtin(from, to) {
+            return Err(ChangeError::Refused(Refusal::Builtin));
+        }
+        match self.elements.check_deassign(from, to) {
+            Ok(()) => Ok(()),
+            Err(error) => Err(pm_elements::change_error(error)),
+        }
+    }
+}

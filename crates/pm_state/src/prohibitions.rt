@@ -1,0 +1,127 @@
+//! Changes of prohibitions, and of the names of rights.
+
+ghost use Rattle.std.specs.Prelude.{◌≡◌, ◌<◌, OnOk, OnErr, IfOk, IfErr, None, length};
+ghost use Rattle.std.specs.List.{list_all};
+ghost use Rattle.pm_model.specs.State.{element_at};
+ghost use Rattle.pm_model.specs.Effect.{refusal, effect, has_kind, has_subject_kind, is_place, is_place_kind, is_ua_kind, may_prohibit, IsCause};
+ghost use Rattle.pm_state.specs.Shown.{graph_of};
+
+use crate::tables::Tables;
+use pm_model::{
+    Change, ChangeError, ElementId, Kind, Made, Memory, Name, PlaceList, Prohibition, Refusal,
+    Subject,
+};
+
+fn is_place_kind(kind: Kind) -> bool
+    ensures { result ≡ is_place_kind kind }
+{
+    match kind {
+        Kind::Ua | Kind::Oa | Kind::Object => true,
+        Kind::User | Kind::Pc => false,
+    }
+}
+
+impl Tables {
+    // Whether the element is of a kind that may stand in a set of a prohibition.
+    fn is_place(&self, id: ElementId) -> bool
+        ensures { result ≡ is_place self.now.elements.elements id }
+    {
+        self.elements.live(id) && is_place_kind(self.elements.kind(id))
+    }
+
+    fn are_places(&self, places: &PlaceList) -> bool
+        ensures { result ≡ list_all (is_place self.now.elements.elements) places.now }
+    {
+        places.as_slice().iter().all(|id| self.is_place(*id))
+    }
+
+    fn is_user_attribute(&self, id: ElementId) -> bool
+        ensures { result ≡ has_kind is_ua_kind (element_at self.now.elements.elements id) }
+    {
+        self.elements.live(id) && matches!(self.elements.kind(id), Kind::Ua)
+    }
+
+    fn has_subject_kind(&self, subject: Subject<ElementId, u32>) -> bool
+        ensures { result ≡ has_subject_kind self.now.elements.elements subject }
+    {
+        match subject {
+            Subject::User(id) => self.is_user(id),
+            Subject::Ua(id) => self.is_user_attribute(id),
+            Subject::Process(_) => true,
+        }
+    }
+
+    fn may_prohibit(&self, item: &Prohibition) -> bool
+        ensures { result ≡ may_prohibit self.now.elements.elements item.now }
+    {
+        self.has_subject_kind(item.subject)
+            && self.are_places(&item.inc)
+            && self.are_places(&item.exc)
+    }
+
+    pub(crate) fn prohibit(&mut self, item: &Prohibition) -> Result<Made, ChangeError>
+        ensures ok { OnOk result (effect (graph_of self.old) (Change.Prohibit item.now) ≡ Ok (graph_of self.new)) }
+        ensures made { IfOk result (λ m. m ≡ Made.Nothing) }
+        ensures refused { IfErr result (IsCause (refusal (graph_of self.old) (Change.Prohibit item.now))) }
+        ensures classes { self.new.classes ≡ self.old.classes }
+        ensures err { OnErr result (self.new ≡ self.old) }
+    {
+        if !self.may_prohibit(item) {
+            return Err(ChangeError::Refused(Refusal::BadKinds));
+        }
+        let item = match item.copy() {
+            Ok(item) => item,
+            Err(Memory) => return Err(ChangeError::Memory),
+        };
+        match self.deny.prohibit(item) {
+            Ok(()) => Ok(Made::Nothing),
+            Err(error) => Err(pm_deny::change_error(error)),
+        }
+    }
+
+    pub(crate) fn check_prohibit(&self, item: &Prohibition) -> Result<(), ChangeError>
+        ensures ok { OnOk result (refusal (graph_of self.now) (Change.Prohibit item.now) ≡ None) }
+        ensures refused { IfErr result (IsCause (refusal (graph_of self.now) (Change.Prohibit item.now))) }
+    {
+        if !self.may_prohibit(item) {
+            return Err(ChangeError::Refused(Refusal::BadKinds));
+        }
+        match self.deny.check_prohibit(item) {
+            Ok(()) => Ok(()),
+            Err(error) => Err(pm_deny::change_error(error)),
+        }
+    }
+
+    pub(crate) fn lift(&mut self, index: u32) -> Made
+        requires { index < length self.old.deny }
+        ensures ok { effect (graph_of self.old) (Change.Lift index) ≡ Ok (graph_of self.new) }
+        ensures made { result ≡ Made.Nothing }
+        ensures classes { self.new.classes ≡ self.old.classes }
+    {
+        self.deny.lift_at(index);
+        Made::Nothing
+    }
+
+    pub(crate) fn define_right(&mut self, name: Name) -> Result<Made, ChangeError>
+        ensures ok { OnOk result (effect (graph_of self.old) (Change.DefineRight name) ≡ Ok (graph_of self.new)) }
+        ensures made { IfOk result (λ m. m ≡ Made.Nothing) }
+        ensures refused { IfErr result (IsCause (refusal (graph_of self.old) (Change.DefineRight name))) }
+        ensures classes { self.new.classes ≡ self.old.classes }
+        ensures err { OnErr result (self.new ≡ self.old) }
+    {
+        match self.rights.define(name) {
+            Ok(()) => Ok(Made::Nothing),
+            Err(error) => Err(pm_rights::change_error(error)),
+        }
+    }
+
+    pub(crate) fn check_define_right(&self, name: Name) -> Result<(), ChangeError>
+        ensures ok { OnOk result (refusal (graph_of self.now) (Change.DefineRight name) ≡ None) }
+        ensures refused { IfErr result (IsCause (refusal (graph_of self.now) (Change.DefineRight name))) }
+    {
+        match self.rights.check_define(name) {
+            Ok(()) => Ok(()),
+            Err(error) => Err(pm_rights::change_error(error)),
+        }
+    }
+}
