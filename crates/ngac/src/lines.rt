@@ -5,6 +5,7 @@ ghost use Rattle.pm_model.specs.Causes.{HasCause};
 ghost use Rattle.pm_model.specs.Lines.{cut};
 ghost use Rattle.pm_model.specs.Solo.{asked_at, answer_what, line_told};
 ghost use Rattle.pm_model.specs.Answer.{after};
+ghost use Rattle.pm_model.specs.History.{state_of};
 ghost use Rattle.pm_session.specs.Taken.{shown, rest_of};
 ghost use Rattle.ngac.specs.Wrote.{Wrote, WroteWhole, WrotePart};
 ghost use Rattle.ngac.specs.Coming.{coming, ahead};
@@ -96,8 +97,8 @@ fn next_asked(alloc: Global, session: &mut Session) -> Result<Option<Asked>, Mem
 }
 
 fn answer(session: &mut Session, solo: &mut Solo, asked: Asked) -> Result<(), Memory>
-    ensures output { OnOk result (session.new.output ≡ session.old.output ++ line_told asked.id solo.old (answer_what solo.old asked.what)) }
-    ensures state { OnOk result (solo.new ≡ after solo.old (answer_what solo.old asked.what)) }
+    ensures output { OnOk result (session.new.output ≡ session.old.output ++ line_told asked.id (state_of solo.old) (answer_what (state_of solo.old) asked.what)) }
+    ensures state { OnOk result (state_of solo.new ≡ after (state_of solo.old) (answer_what (state_of solo.old) asked.what)) }
     ensures waiting { session.new.waiting ≡ session.old.waiting }
 {
     match &asked.what {
@@ -133,14 +134,14 @@ pub(crate) fn answer_lines<O: Sink>(
     out: &mut O,
 ) -> Result<(), Stop>
     requires { session.old.output ≡ [] }
-    ensures ok { OnOk result (Wrote (O.taken out.old) (O.taken out.new) solo.old solo.new
+    ensures ok { OnOk result (Wrote (O.taken out.old) (O.taken out.new) (state_of solo.old) (state_of solo.new)
         (coming session.old.waiting) (coming session.new.waiting)) }
     ensures drained { OnOk result (cut session.new.waiting ≡ None) }
     ensures sent { OnOk result (session.new.output ≡ []) }
     ensures fault { result ≡ Err Stop.WriteFault
-        → WrotePart (O.taken out.old) (O.taken out.new) (ahead solo.old (coming session.old.waiting)) }
+        → WrotePart (O.taken out.old) (O.taken out.new) (ahead (state_of solo.old) (coming session.old.waiting)) }
     ensures memory { result ≡ Err Stop.Memory
-        → WroteWhole (O.taken out.old) (O.taken out.new) solo.old (coming session.old.waiting) }
+        → WroteWhole (O.taken out.old) (O.taken out.new) (state_of solo.old) (coming session.old.waiting) }
     ensures cause { HasStopCause (O.faults out.old) (O.faults out.new) result }
 {
     while let Some(asked) = next_asked(alloc, session)? {

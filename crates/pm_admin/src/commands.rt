@@ -22,7 +22,7 @@ pub fn apply(
     ensures made { IfOk result (λ r. r.1 ≡ made_by draft.old.graph r.0) }
     ensures refused { IfErr result (IsCauseOf draft.old.graph (resolve draft.old.graph command.now)) }
     ensures err { OnErr result (draft.new ≡ draft.old) }
-    ensures version { draft.new.version ≡ draft.old.version }
+    ensures history { draft.new.history ≡ draft.old.history }
 {
     let change = match resolve(draft.graph(), command) {
         Ok(change) => change,

@@ -9,6 +9,8 @@ mod denials;
 mod names;
 mod prohibiting;
 mod rulings;
+#[cfg(test)]
+mod tests;
 
 pub use access::{acting, authorise_access};
 pub use commands::apply;

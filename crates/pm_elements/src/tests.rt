@@ -222,10 +222,10 @@ fn questions_by_number(rt: HostRuntime) -> Result<(), Fail> {
     Ok(())
 }
 
-fn class_name(rt: &impl Abort, n: u32) -> Name {
+fn numbered(rt: &impl Abort, letter: u8, n: u32) -> Name {
     let digit = |place: u32| b'0' + (n / place % 10) as u8;
     let bytes = [
-        b'c',
+        letter,
         digit(10000),
         digit(1000),
         digit(100),
@@ -239,10 +239,72 @@ fn class_name(rt: &impl Abort, n: u32) -> Name {
 fn classes_up_to_the_limit(rt: HostRuntime) -> Result<(), Fail> {
     let mut table = Elements::opening(rt.alloc())?;
     for n in 0..16381 {
-        table.add(Kind::Pc, class_name(&rt, n))?;
+        table.add(Kind::Pc, numbered(&rt, b'c', n))?;
     }
     let full = ElementsError::Full(Table::Elements);
-    assert_eq!(rt; table.add(Kind::Pc, class_name(&rt, 20000)), Err(full));
+    assert_eq!(rt; table.add(Kind::Pc, numbered(&rt, b'c', 20000)), Err(full));
     assert_eq!(rt; table.len(), 16384);
+    Ok(())
+}
+
+fn live(rt: &impl Abort, table: &Elements, x: u32) -> ElementId
+    ensures { IsLive table.now.elements result }
+{
+    let id = ElementId(x);
+    assert!(rt; table.live(id));
+    id
+}
+
+fn put(
+    rt: &impl Abort,
+    table: &mut Elements,
+    kind: Kind,
+    name: Name,
+    into: u32,
+) -> Result<(), ElementsError> {
+    let container = live(rt, table, into);
+    table.create(kind, name, Some(container))?;
+    Ok(())
+}
+
+// The class 3, the object attributes 4 to 258 in it, and the objects 259 to 771 in the first of these.
+fn attributes_and_objects(rt: &impl Abort, alloc: Global) -> Result<Elements, ElementsError> {
+    let mut table = Elements::opening(alloc)?;
+    table.add(Kind::Pc, numbered(rt, b'c', 0))?;
+    for n in 0..255 {
+        put(rt, &mut table, Kind::Oa, numbered(rt, b'a', n), 3)?;
+    }
+    for n in 0..513 {
+        put(rt, &mut table, Kind::Object, numbered(rt, b'o', n), 4)?;
+    }
+    Ok(table)
+}
+
+fn put_into(rt: &impl Abort, table: &mut Elements, x: u32, y: u32) -> Result<(), ElementsError> {
+    let x = live(rt, table, x);
+    let y = live(rt, table, y);
+    table.assign(x, y)
+}
+
+fn put_into_each(rt: &impl Abort, table: &mut Elements, object: u32) -> Result<(), ElementsError> {
+    for attribute in 5..259 {
+        put_into(rt, table, object, attribute)?;
+    }
+    Ok(())
+}
+
+// The opening has 2 assignments. With 255 of attributes, 513 of objects to the first attribute and
+// 513 times 254 of objects to the others these are 131,072.
+#[test]
+fn assignments_up_to_the_limit(rt: HostRuntime) -> Result<(), Fail> {
+    let mut table = attributes_and_objects(&rt, rt.alloc())?;
+    for object in 259..772 {
+        put_into_each(&rt, &mut table, object)?;
+    }
+    assert_eq!(rt; table.assignments(), 131072);
+    let full = ElementsError::Full(Table::Assignments);
+    assert_eq!(rt; put_into(&rt, &mut table, 259, 3), Err(full));
+    let already = ElementsError::Already;
+    assert_eq!(rt; put_into(&rt, &mut table, 259, 5), Err(already));
     Ok(())
 }

@@ -1,4 +1,6 @@
+pub mod Accepted
 pub mod Acting
+mod Asking
 pub mod Assigned
 pub mod Associations
 pub mod Authority
@@ -20,6 +22,8 @@ pub mod Opening
 pub mod Pairs
 pub mod Procs
 pub mod Prohibitions
+pub mod Recorded
+pub mod Replayed
 pub mod Resolved
 pub mod RightNames
 pub mod Shape

@@ -89,7 +89,7 @@ position_from-below p i (x ∷ xs) b = cond_both (p x) (Some i) (position_from p
     (λ is h. let later = position_from-below p (i + 1) xs b h in omega (arith, later))
 
 -- what is found at a place is within the list
-known-below : {X : Type 0} (p : X → Bool) (xs : List X) (name : List ℕ) (i : ℕ) → known name (position_from p 0 xs) ≡ Ok i → i < length xs
+pub known-below : {X : Type 0} (p : X → Bool) (xs : List X) (name : List ℕ) (i : ℕ) → known name (position_from p 0 xs) ≡ Ok i → i < length xs
 known-below p xs name i h =
     let below : i < 0 + length xs = position_from-below p 0 xs i (known-ok name (position_from p 0 xs) i h) in omega (arith, below)
 

@@ -1,13 +1,14 @@
 -- What the definitions come to, in the standard's words: assignments join elements of certain kinds and order them, each
 -- element leads to a policy class, and each process acts for one user. What is said of names and of numbers is the
 -- project's own.
-use Rattle.std.specs.Prelude.{◌≡◌, ◌≤◌, ◌<◌, ◌+◌, ◌⊎◌, ℕ, List, Contains, Some, true}
-use Rattle.pm_model.specs.State.{Graph, element_at}
+use Rattle.std.specs.Prelude.{◌≡◌, ◌≤◌, ◌<◌, ◌+◌, ◌⊎◌, ℕ, List, length, Contains, Some, true}
+use Rattle.pm_model.specs.State.{State, Graph, element_at}
 use Rattle.pm_model.specs.Containment.{IsContained}
 use Rattle.pm_model.specs.Effect.{may_assign}
-use Rattle.pm_model.specs.Formed.{IsLive}
+use Rattle.pm_model.specs.Formed.{IsLive, IsWellFormed}
 use Rattle.pm_model.specs.declared.elements.Kind.TheVariants.{Pc}
 use Rattle.pm_model.specs.declared.elements.Element.{Element}
+use Rattle.pm_model.specs.declared.requests.Entry.{Entry}
 use Rattle.pm_model.specs.declared.sessions.Session.{Session}
 use Rattle.pm_model.specs.declared.sessions.Process.{Process}
 use Rattle.pm_model.specs.declared.prohibitions.Prohibition.{Prohibition}
@@ -62,3 +63,15 @@ abbrev pub GiveNext : Graph → Graph → Type 0
 GiveNext G H =
     GivesNext (λ (s : Session). s.number) G.procs.sessions H.procs.sessions G.procs.next_session H.procs.next_session
     × GivesNext (λ (p : Process). p.number) G.procs.processes H.procs.processes G.procs.next_process H.procs.next_process
+
+-- the version bounds the numbers given to sessions and to processes, behind those of the opening
+pub record AreGivenBy (S : State) : Type 0 where
+  pub sessions : S.graph.procs.next_session ≤ S.version + 1
+  pub processes : S.graph.procs.next_process ≤ S.version + 1
+
+-- this state may be where the history has led
+pub record IsReached (H : List Entry) (S : State) : Type 0 where
+  pub formed : IsWellFormed S.graph
+  pub given : AreGivenBy S
+  pub counted : S.version ≡ length H
+  pub short : length H ≤ 262144

@@ -1,7 +1,7 @@
 //! What the definitions of the graph say of one another: laws, with no program.
 #![tactic(auto)]
 
-ghost use Rattle.std.specs.Prelude.{◌≡◌, ◌↔◌, ◌≤◌, ◌<◌, ◌+◌, ◌⊎◌, ℕ, List, Contains, Option, Some, IsSome, slice_get, None, Ok, Err, is_some, true, false};
+ghost use Rattle.std.specs.Prelude.{◌≡◌, ◌↔◌, ◌≤◌, ◌<◌, ◌+◌, ◌⊎◌, ℕ, List, Contains, [], length, Option, Some, IsSome, slice_get, None, Ok, Err, is_some, true, false};
 ghost use Rattle.std.specs.List.{list_any};
 ghost use Rattle.pm_model.specs.State.{State, Graph, root, opening, element_at, number_named, classes_in};
 ghost use Rattle.pm_model.specs.Sessions.{user_of};
@@ -11,6 +11,10 @@ ghost use Rattle.pm_model.specs.Results.{and_then};
 ghost use Rattle.pm_model.specs.Effect.{changed, effect};
 ghost use Rattle.pm_model.specs.Resolve.{resolve};
 ghost use Rattle.pm_model.specs.Answer.{answer, after};
+ghost use Rattle.pm_model.specs.History.{IsLegal, replay};
+ghost use Rattle.pm_model.specs.Lines.{events};
+ghost use Rattle.pm_model.specs.Recorded.{history_after, recorded_solo};
+ghost use Rattle.pm_model.specs.Solo.{solo};
 ghost use Rattle.pm_model.specs.Authority.{is_administrative, denial_in, required, ruling};
 ghost use Rattle.pm_model.specs.RightSet.{is_access_right};
 ghost use Rattle.pm_model.specs.Nameable.{IsNameable};
@@ -20,11 +24,12 @@ ghost use Rattle.pm_model.specs.declared.requests.Change.{Change};
 ghost use Rattle.pm_model.specs.declared.requests.Change.TheVariants.{CloseSession, Delete};
 ghost use Rattle.pm_model.specs.declared.replies.Refusal.TheVariants.{InUse};
 ghost use Rattle.pm_model.specs.declared.requests.Command.{Command};
+ghost use Rattle.pm_model.specs.declared.requests.Entry.{Entry};
 ghost use Rattle.pm_model.specs.declared.requests.Request.{Request};
 ghost use Rattle.pm_model.specs.declared.sessions.Session.{Session};
 ghost use Rattle.pm_model.specs.declared.sessions.Process.{Process};
 ghost use Rattle.pm_laws.specs.Examples.{staffed, held, made, refused, refused_at_work, in_use, wards, ruled, unformed};
-ghost use Rattle.pm_laws.specs.Meaning.{IsJoined, IsPartialOrder, IsInClass, IsNumberOf, ActsFor, ActsForOne, IsGone, GiveNext};
+ghost use Rattle.pm_laws.specs.Meaning.{IsJoined, IsPartialOrder, IsInClass, IsNumberOf, ActsFor, ActsForOne, IsGone, GiveNext, IsReached};
 
 /// What a change makes of a well formed graph is well formed.
 pub fn formed_effect()
@@ -145,6 +150,12 @@ pub fn root_may_all()
     ensures { (G : Graph) (q : Option ℕ) (c : Command) (d : Change) → resolve G c ≡ Ok d → ruling G root q c ≡ Ok d }
 {}
 
+/// Each command asks for at least one capability.
+#[tactic(auto, using(crate::proofs::Asking::command_asks))]
+pub fn command_asks()
+    ensures { (G : Graph) (c : Command) (d : Change) → resolve G c ≡ Ok d → 0 < length (required G d) }
+{}
+
 /// Each element on which a change asks for a right is live.
 pub fn required_live()
     ensures { (G : Graph) (d : Change) → IsWellFormed G → IsNamed G d → Each (λ (c : ℕ × ℕ). IsLive G.elements c.1) (required G d) }
@@ -187,4 +198,19 @@ pub fn examples_ruled()
 #[tactic(auto, using(crate::proofs::Computed::examples_unformed))]
 pub fn examples_unformed()
     ensures { Each (λ G. IsWellFormed G → ⊥) unformed }
+{}
+
+/// The replay of a legal history is well formed. Its version is the number of entries, of which there are
+/// at most 262,144, and bounds the numbers given to sessions and to processes.
+#[tactic(auto, using(crate::proofs::Replayed::legal_history))]
+pub fn legal_history()
+    ensures { (H : List Entry) → IsLegal H → IsReached H (replay H) }
+{}
+
+/// One caller gets the same replies whether each is that of the state so far, or that of the replay of
+/// the entries so far; and these are a legal history.
+#[tactic(auto, using(crate::proofs::Recorded::one_caller_replies, crate::proofs::Recorded::one_caller_history))]
+pub fn one_caller()
+    ensures replies { (bytes : List ℕ) → recorded_solo bytes ≡ solo bytes }
+    ensures history { (bytes : List ℕ) → IsLegal (history_after [] (events bytes)) }
 {}

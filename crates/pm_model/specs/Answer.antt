@@ -4,7 +4,7 @@
 use Rattle.std.specs.Prelude.{ℕ, List, Bool, false, ◌+◌, ◌&&◌, if◌then◌else◌, nat_lt, nat_le, Option, None, Some, Result, Ok, Err, unwrap_or, is_some}
 use Rattle.pm_model.specs.Results.{and_then}
 use Rattle.pm_model.specs.State.{State, Graph}
-use Rattle.pm_model.specs.Effect.{effect}
+use Rattle.pm_model.specs.Effect.{refusal, effect}
 use Rattle.pm_model.specs.Resolve.{look_up}
 use Rattle.pm_model.specs.declared.requests.Request.{Request}
 use Rattle.pm_model.specs.declared.requests.Body.{Body}
@@ -87,6 +87,13 @@ proposed S request = if is_ahead request.after S.version then told Ahead else an
 
 abbrev pub longest_history : ℕ
 longest_history = 262144
+
+-- why a change isn't made as an entry: the first precondition that isn't met; where all are, a full history
+abbrev pub refusal_in : State → Change → Option Refusal
+refusal_in S change = or_full (refusal S.graph change) (nat_le longest_history S.version) where
+  or_full : Option Refusal → Bool → Option Refusal
+  or_full (Some why) full = Some why
+  or_full None full = if full then Some (Full History) else None
 
 -- what would be an entry is refused where the history is full
 abbrev pub limited : State → Answer → Answer

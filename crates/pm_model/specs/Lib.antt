@@ -6,6 +6,7 @@ pub mod Containment
 pub mod Decision
 pub mod Effect
 pub mod Formed
+pub mod History
 pub mod Lines
 pub mod Made
 pub mod Name
@@ -13,6 +14,7 @@ pub mod NameFields
 pub mod Nameable
 pub mod Object
 pub mod Prohibitions
+pub mod Recorded
 pub mod Resolve
 pub mod Results
 pub mod RightSet

@@ -26,7 +26,7 @@ pub use outside::{Failed, Sink, Source};
 pub use prohibitions::{Mode, Prohibition, Subject};
 pub use reading::{Bars, Grants, NameOf, Parents, Reach};
 pub use replies::{ChangeError, Made, Reason, Refusal, Reply, Shown, Table};
-pub use requests::{Asked, Body, Change, Command, Request, What};
+pub use requests::{Asked, Body, Change, Command, Entry, Request, What};
 pub use rights::{Association, Grant, Grantee, Rights, is_access_right};
 pub use sessions::{Process, Session};
 pub use words::{Key, Word};

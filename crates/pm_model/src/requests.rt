@@ -1,8 +1,11 @@
 //! What a line asks: commands by names, and changes by numbers.
 
+ghost use Rattle.std.specs.Prelude.{◌≡◌, IfOk};
+
 use crate::elements::{ElementId, Kind};
 use crate::lines::BadLine;
 use crate::lists::NameList;
+use crate::memory::Memory;
 use crate::names::Name;
 use crate::prohibitions::{Mode, Prohibition, Subject};
 use crate::rights::Rights;
@@ -62,6 +65,54 @@ pub enum Command {
     DefineRight {
         name: Name,
     },
+}
+
+impl Command {
+    /// The same command once more.
+    pub fn copy(&self) -> Result<Command, Memory>
+        ensures { IfOk result (λ same. same ≡ self.now) }
+    {
+        Ok(match self {
+            Command::CreatePc { name } => Command::CreatePc { name: *name },
+            Command::Create { kind, name, into } => Command::Create {
+                kind: *kind,
+                name: *name,
+                into: *into,
+            },
+            Command::Delete { name } => Command::Delete { name: *name },
+            Command::Assign { from, to } => Command::Assign {
+                from: *from,
+                to: *to,
+            },
+            Command::Deassign { from, to } => Command::Deassign {
+                from: *from,
+                to: *to,
+            },
+            Command::Associate { ua, rights, at } => Command::Associate {
+                ua: *ua,
+                rights: rights.copy()?,
+                at: *at,
+            },
+            Command::Dissociate { ua, at } => Command::Dissociate { ua: *ua, at: *at },
+            Command::Prohibit {
+                name,
+                subject,
+                rights,
+                inc,
+                exc,
+                mode,
+            } => Command::Prohibit {
+                name: *name,
+                subject: *subject,
+                rights: rights.copy()?,
+                inc: inc.copy()?,
+                exc: exc.copy()?,
+                mode: *mode,
+            },
+            Command::Lift { name } => Command::Lift { name: *name },
+            Command::DefineRight { name } => Command::DefineRight { name: *name },
+        })
+    }
 }
 
 /// A change of the graph: a command with its names resolved to numbers.
@@ -151,11 +202,62 @@ pub enum Body {
     },
 }
 
+impl Body {
+    /// The same body once more.
+    pub fn copy(&self) -> Result<Body, Memory>
+        ensures { IfOk result (λ same. same ≡ self.now) }
+    {
+        Ok(match self {
+            Body::Version => Body::Version,
+            Body::OpenSession { user } => Body::OpenSession { user: *user },
+            Body::CloseSession { session } => Body::CloseSession { session: *session },
+            Body::StartProcess { session } => Body::StartProcess { session: *session },
+            Body::EndProcess { process } => Body::EndProcess { process: *process },
+            Body::Access {
+                process,
+                right,
+                target,
+            } => Body::Access {
+                process: *process,
+                right: *right,
+                target: *target,
+            },
+            Body::Admin { process, command } => Body::Admin {
+                process: *process,
+                command: command.copy()?,
+            },
+        })
+    }
+}
+
 /// A request: what is asked, and the version that the machine must have reached, where one is given.
 #[derive(Drop)]
 pub struct Request {
     pub after: Option<u64>,
     pub body: Body,
+}
+
+impl Request {
+    /// The same request once more.
+    pub fn copy(&self) -> Result<Request, Memory>
+        ensures { IfOk result (λ same. same ≡ self.now) }
+    {
+        let body = self.body.copy()?;
+        Ok(Request {
+            after: self.after,
+            body,
+        })
+    }
+}
+
+/// An accepted request, as the history keeps it.
+#[derive(Drop)]
+pub struct Entry {
+    /// Who asked: each caller has a seat with a number of its own.
+    pub seat: u32,
+    /// Which entry of its seat it is, from 1.
+    pub nth: u64,
+    pub request: Request,
 }
 
 /// What a line asks: a request, or nothing, for a reason.

@@ -1,10 +1,11 @@
--- What every draft keeps.
-use Rattle.std.specs.Prelude.{◌≤◌}
-use Rattle.pm_model.specs.State.{State}
+-- What every draft keeps: the history that it began from is legal.
+use Rattle.std.specs.Prelude.{◌≡◌}
+use Rattle.pm_model.specs.History.{Machine, IsLegal}
 use Rattle.pm_state.specs.declared.draft.Draft.TheInside.{Inside}
 
-abbrev pub drafted_of : Inside → State
-drafted_of d = record { graph = d.graph; version = d.version }
+abbrev pub drafted_of : Inside → Machine
+drafted_of d = record { graph = d.graph; history = d.history.entries }
 
 pub record IsDraft (d : Inside) : Type 0 where
-  pub limit : d.version ≤ 262144
+  pub legal : IsLegal d.history.entries
+  pub limit : d.history.limit ≡ 262144

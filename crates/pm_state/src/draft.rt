@@ -1,26 +1,26 @@
-ghost use Rattle.std.specs.Prelude.{◌≡◌, ◌<◌, ◌≤◌, ◌+◌, OnOk, OnErr, IfOk, IfErr};
+ghost use Rattle.std.specs.Prelude.{◌≡◌, ◌<◌, ◌≤◌, ◌∷◌, ◌++◌, [], Ok, length, OnOk, OnErr, IfOk, IfErr};
 ghost use Rattle.pm_model.specs.Effect.{refusal, effect, IsCause};
 ghost use Rattle.pm_model.specs.Formed.{IsNamed};
+ghost use Rattle.pm_model.specs.History.{IsAnswered, IsLegal};
 ghost use Rattle.pm_model.specs.Made.{made_by};
-ghost use Rattle.pm_state.specs.KeptState.{AreGivenBy};
-ghost use Rattle.pm_state.specs.declared.state.TheConstants.{LONGEST_HISTORY};
 
 use crate::graph::Graph;
 use crate::state::State;
-use pm_model::{Change, ChangeError, Made};
+use pm_history::{History, HistoryError};
+use pm_model::{Change, ChangeError, Entry, Made};
 use std::marker::Model;
 
-/// A graph that changes are made in one after another, and the version that it began from.
+/// A graph that changes are made in one after another, and the history before them.
 #[derive(Drop)]
 pub struct Draft {
     graph: Graph,
-    version: u64,
+    history: History,
 }
 
 impl Model for Draft {
-    ghost use Rattle.pm_model.specs.State.{State};
+    ghost use Rattle.pm_model.specs.History.{Machine};
 
-    ghost Value = { State };
+    ghost Value = { Machine };
 
     ghost use Rattle.pm_state.specs.KeptDraft.{drafted_of, IsDraft};
 
@@ -30,11 +30,12 @@ impl Model for Draft {
 }
 
 impl Draft {
-    pub(crate) fn begun(graph: Graph, version: u64) -> Draft
-        requires { version ≤ LONGEST_HISTORY }
-        ensures { result ≡ record { graph = graph; version = version } }
+    pub(crate) fn begun(graph: Graph, history: History) -> Draft
+        requires legal { IsLegal history.entries }
+        requires limit { history.limit ≡ 262144 }
+        ensures { result ≡ record { graph = graph; history = history.entries } }
     {
-        Draft { graph, version }
+        Draft { graph, history }
     }
 
     /// The graph as it is now.
@@ -52,19 +53,24 @@ impl Draft {
         ensures made { IfOk result (λ m. m ≡ made_by self.old.graph change.now) }
         ensures refused { IfErr result (IsCause (refusal self.old.graph change.now)) }
         ensures err { OnErr result (self.new ≡ self.old) }
-        ensures version { self.new.version ≡ self.old.version }
+        ensures history { self.new.history ≡ self.old.history }
     {
         self.graph.change(change)
     }
 
-    /// The state with this graph, at the next version. One entry opens at most one session and
-    /// starts at most one process.
-    pub fn finish(self) -> State
-        requires room { self.version < LONGEST_HISTORY }
-        requires given { AreGivenBy self.graph.procs (self.version + 1) }
-        ensures { result ≡ record { graph = self.graph; version = self.version + 1 } }
+    /// The state with this graph, and the entry at the end of the history. The graph must be what the
+    /// machine's answer to the entry makes. `Full` exactly where the history has 262,144 entries.
+    pub fn finish(self, entry: Entry) -> Result<State, HistoryError>
+        requires { IsAnswered self entry.request }
+        ensures ok { IfOk result (λ s. s ≡ record { graph = self.graph; history = self.history ++ entry ∷ [] }) }
+        ensures room { OnOk result (length self.history < 262144) }
+        ensures full { IfErr result (λ e. e ≡ HistoryError.Full → 262144 ≤ length self.history) }
     {
-        let Draft { graph, version } = self;
-        State::joined(graph, version + 1)
+        let Draft { graph, mut history } = self;
+        match history.push(entry) {
+            Ok(()) => {}
+            Err(error) => return Err(error),
+        }
+        Ok(State::joined(graph, history))
     }
 }

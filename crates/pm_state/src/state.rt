@@ -1,35 +1,37 @@
-ghost use Rattle.std.specs.Prelude.{◌≡◌, ◌<◌, ◌≤◌, ◌+◌, nat_le, OnOk, OnErr, IfOk, IfErr};
-ghost use Rattle.pm_model.specs.State.{opening};
-ghost use Rattle.pm_model.specs.Effect.{refusal, effect, IsCause};
+ghost use Rattle.std.specs.Prelude.{◌≡◌, ◌<◌, ◌≤◌, ◌∷◌, ◌++◌, [], Ok, length, slice_get, OnOk, OnErr, IfOk, IfErr};
+ghost use Rattle.std.specs.Option.{option_copied};
+ghost use Rattle.pm_model.specs.Effect.{effect, IsCause};
 ghost use Rattle.pm_model.specs.Formed.{IsNamed};
-ghost use Rattle.pm_model.specs.Answer.{longest_history};
+ghost use Rattle.pm_model.specs.Answer.{entered, proposed, refusal_in};
+ghost use Rattle.pm_model.specs.History.{IsReplayed, opening_machine, state_of};
 ghost use Rattle.pm_model.specs.Made.{made_by};
-ghost use Rattle.pm_state.specs.KeptState.{AreGivenBy};
+ghost use Rattle.pm_laws.specs.Meaning.{AreGivenBy};
 
 use crate::draft::Draft;
 use crate::graph::Graph;
-use pm_model::{Change, ChangeError, Made, Memory};
+use pm_history::{History, HistoryError};
+use pm_model::{Change, ChangeError, Entry, Made, Memory, Refusal, Table};
 use std::alloc::Global;
 use std::marker::Model;
 
 /// The most entries of a history.
-pub(crate) const LONGEST_HISTORY: u64 = 262144;
+const LONGEST_HISTORY: u64 = 262144;
 
-/// A version of the machine: the graph, and the number of entries that led to it.
+/// A version of the machine: its graph, and the accepted requests that led to it.
 #[derive(Drop)]
 pub struct State {
     graph: Graph,
-    version: u64,
+    history: History,
 }
 
 impl Model for State {
-    ghost use Rattle.pm_model.specs.State.{State};
+    ghost use Rattle.pm_model.specs.History.{Machine};
 
-    ghost Value = { State };
+    ghost Value = { Machine };
 
-    ghost use Rattle.pm_state.specs.KeptState.{state_of, IsState};
+    ghost use Rattle.pm_state.specs.KeptState.{machine_of, IsState};
 
-    ghost view = { state_of };
+    ghost view = { machine_of };
 
     ghost invariant = { IsState };
 }
@@ -37,33 +39,35 @@ impl Model for State {
 impl State {
     /// The state before any request.
     pub fn opening(alloc: Global) -> Result<State, Memory>
-        ensures { IfOk result (λ s. s ≡ opening) }
+        ensures { IfOk result (λ s. s ≡ opening_machine) }
     {
         let graph = Graph::opening(alloc)?;
-        Ok(State { graph, version: 0 })
+        let history = History::new(alloc, LONGEST_HISTORY);
+        Ok(State { graph, history })
     }
 
-    pub(crate) fn joined(graph: Graph, version: u64) -> State
-        requires limit { version ≤ LONGEST_HISTORY }
-        requires given { AreGivenBy graph.procs version }
-        ensures { result ≡ record { graph = graph; version = version } }
+    pub(crate) fn joined(graph: Graph, history: History) -> State
+        requires replayed { IsReplayed (record { graph = graph; history = history.entries }) }
+        requires limit { history.limit ≡ 262144 }
+        ensures { result ≡ record { graph = graph; history = history.entries } }
     {
-        State { graph, version }
+        State { graph, history }
     }
 
     /// How many entries were accepted.
     pub fn version(&self) -> u64
-        ensures version { result ≡ self.now.version }
-        ensures most { result ≤ LONGEST_HISTORY }
+        ensures version { result ≡ length self.now.history }
+        ensures most { result ≤ 262144 }
     {
-        self.version
+        let _limit = self.history.limit();
+        self.history.len()
     }
 
-    /// Whether no further entry is accepted: whether there are 262,144.
-    pub fn is_full(&self) -> bool
-        ensures { result ≡ nat_le longest_history self.now.version }
+    /// The entry at a place of the history, from 0; None exactly where there is none.
+    pub fn entry(&self, i: u64) -> Option<&Entry>
+        ensures { option_copied result ≡ slice_get self.now.history i }
     {
-        self.version >= LONGEST_HISTORY
+        self.history.get(i)
     }
 
     /// The graph of this version.
@@ -73,48 +77,73 @@ impl State {
         &self.graph
     }
 
-    /// What each state keeps: the version bounds the numbers of sessions and processes.
-    pub fn kept(&self)
-        ensures { AreGivenBy self.now.graph.procs self.now.version }
+    /// What each state keeps: its history is legal, and it is the replay of its history.
+    pub fn replayed(&self)
+        ensures { IsReplayed self.now }
     {
         let _ = &self.graph;
     }
 
-    /// Makes one change as an entry, or tells the first precondition that isn't met. A refusal leaves
-    /// the state, and so does want of memory.
-    pub fn change(&mut self, change: &Change) -> Result<Made, ChangeError>
-        requires named { IsNamed self.old.graph change.now }
-        requires room { self.old.version < LONGEST_HISTORY }
-        ensures ok { OnOk result (effect self.old.graph change.now ≡ Ok self.new.graph) }
-        ensures version { OnOk result (self.new.version ≡ self.old.version + 1) }
-        ensures made { IfOk result (λ m. m ≡ made_by self.old.graph change.now) }
-        ensures refused { IfErr result (IsCause (refusal self.old.graph change.now)) }
-        ensures err { OnErr result (self.new ≡ self.old) }
+    /// The version bounds the numbers of sessions and processes.
+    pub fn given(&self)
+        ensures { AreGivenBy (state_of self.now) }
     {
-        let made = match self.graph.change(change) {
-            Ok(made) => made,
-            Err(error) => return Err(error),
-        };
-        self.version += 1;
-        Ok(made)
+        self.replayed();
     }
 
-    /// The same state once more.
+    // What is told where the history is full: a precondition that isn't met comes first.
+    fn full(&self, change: &Change) -> ChangeError
+        requires named { IsNamed self.now.graph change.now }
+        requires full { 262144 ≤ length self.now.history }
+        ensures { IsCause (refusal_in (state_of self.now) change.now) result }
+    {
+        match self.graph.check(change) {
+            Ok(()) => ChangeError::Refused(Refusal::Full(Table::History)),
+            Err(error) => error,
+        }
+    }
+
+    /// Makes one change in place as an entry of the history, or tells the first precondition that isn't
+    /// met, a full history last. A refusal leaves the state, and so does want of memory.
+    pub fn enter(&mut self, change: &Change, entry: Entry) -> Result<Made, ChangeError>
+        requires named { IsNamed self.old.graph change.now }
+        requires asked { proposed (state_of self.old) entry.request ≡ entered (state_of self.old) (Ok change.now) }
+        ensures ok { OnOk result (effect self.old.graph change.now ≡ Ok self.new.graph) }
+        ensures history { OnOk result (self.new.history ≡ self.old.history ++ entry ∷ []) }
+        ensures room { OnOk result (length self.old.history < 262144) }
+        ensures made { IfOk result (λ m. m ≡ made_by self.old.graph change.now) }
+        ensures refused { IfErr result (IsCause (refusal_in (state_of self.old) change.now)) }
+        ensures err { OnErr result (self.new ≡ self.old) }
+    {
+        match self.history.push(entry) {
+            Ok(()) => {}
+            Err(HistoryError::Full) => return Err(self.full(change)),
+            Err(HistoryError::Memory) => return Err(ChangeError::Memory),
+        }
+        match self.graph.change(change) {
+            Ok(made) => Ok(made),
+            Err(error) => {
+                self.history.take_back();
+                Err(error)
+            }
+        }
+    }
+
+    /// The same state once more. The entries are shared.
     pub fn copy(&self) -> Result<State, Memory>
         ensures { IfOk result (λ same. same ≡ self.now) }
     {
         let graph = self.graph.copy()?;
-        Ok(State {
-            graph,
-            version: self.version,
-        })
+        let history = self.history.copy()?;
+        Ok(State { graph, history })
     }
 
-    /// A copy in which one change after another can be made.
+    /// A copy in which one change after another can be made, to be one entry together.
     pub fn draft(&self) -> Result<Draft, Memory>
         ensures { IfOk result (λ d. d ≡ self.now) }
     {
         let graph = self.graph.copy()?;
-        Ok(Draft::begun(graph, self.version))
+        let history = self.history.copy()?;
+        Ok(Draft::begun(graph, history))
     }
 }

@@ -1,7 +1,8 @@
 //! What the machine makes of a request in a state, before anything is changed.
 ghost use Rattle.std.specs.Prelude.{◌≡◌, Ok, IfOk, Some};
-ghost use Rattle.pm_model.specs.Answer.{answer, acting, accessed, entered, limited, is_ahead, told, reply_or};
+ghost use Rattle.pm_model.specs.Answer.{acting, accessed, entered, is_ahead, proposed, told, reply_or};
 ghost use Rattle.pm_model.specs.Authority.{ruling};
+ghost use Rattle.pm_model.specs.History.{state_of};
 ghost use Rattle.pm_model.specs.Results.{and_then};
 ghost use Rattle.pm_model.specs.Resolve.{look_up};
 ghost use Rattle.pm_step.specs.Proposed.{answer_by, IsPossible};
@@ -33,10 +34,10 @@ fn refused(why: Refusal) -> Proposal
 }
 
 fn open_session(state: &State, user: Name) -> Proposal
-    ensures answer { answer_by state.now result ≡ limited state.now (entered state.now (and_then (look_up state.now.graph user) (λ u. Ok (Change.OpenSession u)))) }
-    ensures possible { IsPossible state.now result }
+    ensures answer { answer_by (state_of state.now) result ≡ entered (state_of state.now) (and_then (look_up state.now.graph user) (λ u. Ok (Change.OpenSession u))) }
+    ensures possible { IsPossible (state_of state.now) result }
 {
-    state.kept();
+    state.given();
     let _version = state.version();
     match look_up(state.graph(), user) {
         Ok(user) => Proposal::Change(Change::OpenSession { user }),
@@ -45,17 +46,17 @@ fn open_session(state: &State, user: Name) -> Proposal
 }
 
 fn start_process(state: &State, session: u32) -> Proposal
-    ensures answer { answer_by state.now result ≡ limited state.now (entered state.now (Ok (Change.StartProcess session))) }
-    ensures possible { IsPossible state.now result }
+    ensures answer { answer_by (state_of state.now) result ≡ entered (state_of state.now) (Ok (Change.StartProcess session)) }
+    ensures possible { IsPossible (state_of state.now) result }
 {
-    state.kept();
+    state.given();
     let _version = state.version();
     Proposal::Change(Change::StartProcess { session })
 }
 
 fn administer(state: &State, process: u32, command: &Command) -> Result<Proposal, Memory>
-    ensures answer { IfOk result (λ p. answer_by state.now p ≡ limited state.now (entered state.now (and_then (acting state.now.graph process) (λ u. ruling state.now.graph u (Some process) command.now)))) }
-    ensures possible { IfOk result (IsPossible state.now) }
+    ensures answer { IfOk result (λ p. answer_by (state_of state.now) p ≡ entered (state_of state.now) (and_then (acting state.now.graph process) (λ u. ruling state.now.graph u (Some process) command.now))) }
+    ensures possible { IfOk result (IsPossible (state_of state.now)) }
 {
     let graph = state.graph();
     let user = match acting(graph, process) {
@@ -70,8 +71,8 @@ fn administer(state: &State, process: u32, command: &Command) -> Result<Proposal
 }
 
 fn accessed(state: &State, process: u32, right: Name, target: Name) -> Result<Proposal, Memory>
-    ensures answer { IfOk result (λ p. answer_by state.now p ≡ told (reply_or (and_then (acting state.now.graph process) (λ u. accessed state.now.graph u process right target)))) }
-    ensures possible { IfOk result (IsPossible state.now) }
+    ensures answer { IfOk result (λ p. answer_by (state_of state.now) p ≡ told (reply_or (and_then (acting state.now.graph process) (λ u. accessed state.now.graph u process right target)))) }
+    ensures possible { IfOk result (IsPossible (state_of state.now)) }
 {
     let graph = state.graph();
     let user = match acting(graph, process) {
@@ -87,8 +88,8 @@ fn accessed(state: &State, process: u32, right: Name, target: Name) -> Result<Pr
 
 /// What the machine makes of a request. Its only error is want of memory.
 pub(crate) fn propose(state: &State, request: &Request) -> Result<Proposal, Memory>
-    ensures answer { IfOk result (λ p. answer_by state.now p ≡ answer state.now request.now) }
-    ensures possible { IfOk result (IsPossible state.now) }
+    ensures answer { IfOk result (λ p. answer_by (state_of state.now) p ≡ proposed (state_of state.now) request.now) }
+    ensures possible { IfOk result (IsPossible (state_of state.now)) }
 {
     if is_ahead(request.after, state.version()) {
         return Ok(Proposal::Told(Reply::Ahead));

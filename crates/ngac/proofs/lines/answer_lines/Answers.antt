@@ -1,4 +1,5 @@
 use Rattle.std.proofs.Common.{◌<◌, ap, ◌∙◌, arith, length, List, ℕ, ◌++◌}
+use Rattle.pm_model.specs.History.{state_of}
 use Rattle.pm_model.specs.Solo.{line_told, answer_what}
 use Rattle.ngac.proofs.Answering.{answering-more, answering-part, answering-whole, next-line}
 use Rattle.ngac.proofs.lines.answer_lines.Goals as goal
@@ -18,16 +19,16 @@ loop-asked-smaller g c =
 
 pub loop-asked-preserved : goal.loop-asked-preserved
 loop-asked-preserved g c =
-    answering-more _ _ _ _ _ _ _ _ c.loop-asked.solo _ c.loop-asked.session.waiting _ c.answer.new.session.output _ _ c.in-Some.asked c.loop-asked.invariant
+    answering-more _ _ _ _ _ _ _ _ (state_of c.loop-asked.solo) _ c.loop-asked.session.waiting _ c.answer.new.session.output _ _ c.in-Some.asked c.loop-asked.invariant
     (rw c.in-Some.is at c.in_ok-asked.ensures.asked)
-    (c.in_ok-answer.ensures.output ∙ ap (λ (l : List ℕ). l ++ line_told c.in-Some.asked.id c.loop-asked.solo (answer_what c.loop-asked.solo c.in-Some.asked.what)) (c.in_ok-asked.ensures.output ∙ c.loop-asked.invariant.sent))
+    (c.in_ok-answer.ensures.output ∙ ap (λ (l : List ℕ). l ++ line_told c.in-Some.asked.id (state_of c.loop-asked.solo) (answer_what (state_of c.loop-asked.solo) c.in-Some.asked.what)) (c.in_ok-asked.ensures.output ∙ c.loop-asked.invariant.sent))
     c.in_ok-send.ensures.ok c.in_ok-answer.ensures.state
     (c.in_ok-send.ensures.waiting ∙ c.in_ok-answer.ensures.waiting ∙ c.in_ok-asked.ensures.waiting)
     c.in_ok-send.ensures.sent c.in_ok-send.ensures.cause.later
 
 pub returns-in_err-send-clause-fault : goal.returns-in_err-send-clause-fault
 returns-in_err-send-clause-fault g c = λ _.
-    answering-part _ _ _ _ _ _ _ c.loop-asked.solo c.loop-asked.session.waiting c.answer.new.session.output _ c.in-Some.asked c.loop-asked.invariant
+    answering-part _ _ _ _ _ _ _ (state_of c.loop-asked.solo) c.loop-asked.session.waiting c.answer.new.session.output _ c.in-Some.asked c.loop-asked.invariant
     (rw c.in-Some.is at c.in_ok-asked.ensures.asked)
-    (c.in_ok-answer.ensures.output ∙ ap (λ (l : List ℕ). l ++ line_told c.in-Some.asked.id c.loop-asked.solo (answer_what c.loop-asked.solo c.in-Some.asked.what)) (c.in_ok-asked.ensures.output ∙ c.loop-asked.invariant.sent))
+    (c.in_ok-answer.ensures.output ∙ ap (λ (l : List ℕ). l ++ line_told c.in-Some.asked.id (state_of c.loop-asked.solo) (answer_what (state_of c.loop-asked.solo) c.in-Some.asked.what)) (c.in_ok-asked.ensures.output ∙ c.loop-asked.invariant.sent))
     c.in_err-send.ensures.err

@@ -1,0 +1,17 @@
+-- A history as callers see it, and how it is kept.
+use Rattle.std.specs.Prelude.{◌≤◌, ℕ, List, map, length}
+use Rattle.std.specs.Arc.{arc_value}
+use Rattle.pm_model.specs.declared.requests.Entry.{Entry}
+use Rattle.pm_history.specs.declared.History.TheInside.{Inside}
+
+-- the entries, and how many there may be
+pub record Limited : Type 0 where
+  pub entries : List Entry
+  pub limit : ℕ
+
+abbrev pub limited_of : Inside → Limited
+limited_of h = record { entries = map arc_value h.entries.items; limit = h.limit }
+
+pub record IsKept (h : Inside) : Type 0 where
+  pub within : length h.entries.items ≤ h.limit
+  pub most : h.limit ≤ 262144

@@ -1,0 +1,37 @@
+-- Histories, computed.
+use Rattle.std.proofs.Common.{◌≡◌, true, false, refl}
+use Rattle.pm_model.specs.Containment.{contained}
+use Rattle.pm_model.specs.RightSet.{opening_rights, command_words}
+use Rattle.pm_model.specs.History.{replay, IsLegal}
+use Rattle.pm_model.specs.Formed.{Each}
+use Rattle.pm_rows.specs.Histories.{two_entries, after_two, legal, illegal}
+
+pub histories_legal : Each IsLegal legal
+unfolding opening_rights command_words
+histories_legal = (tt, ((refl, (refl, tt)), ((refl, tt), tt)))
+
+pub histories_illegal : Each (λ H. IsLegal H → ⊥) illegal
+unfolding contained opening_rights command_words
+histories_illegal = (
+  λ h. let no : false ≡ true = h.0 in cc,
+  (
+    λ h. let no : false ≡ true = h.0 in cc,
+    (
+      λ h. let no : false ≡ true = h.0 in cc,
+      (
+        λ h. let no : false ≡ true = h.1.0 in cc,
+        (
+          λ h. let no : false ≡ true = h.0 in cc,
+          (
+            λ h. let no : false ≡ true = h.0 in cc,
+            tt,
+          ),
+        ),
+      ),
+    ),
+  ),
+)
+
+pub history_replayed : replay two_entries ≡ after_two
+unfolding opening_rights command_words
+history_replayed = refl
