@@ -1,0 +1,175 @@
+"""A policy at random, the same in each run: the lines that make it, and a plain program of what a decision is.
+
+Three classes hold 300 user attributes and 300 object attributes, six levels deep, with 2,000 users and 4,000 objects,
+each fourth object in two classes. `root` is in three user attributes of the last level, and asks by process 1.
+"""
+import random
+from collections import Counter
+
+from feeding import begin, check, feed
+from yardstick import PROGRAM
+
+CLASSES, LEVELS, WIDE, USERS, OBJECTS = 3, 6, 50, 2000, 4000
+PROCESSES = 20
+GRANTED = "", '"ok":"granted"'
+
+
+def joined(pairs):
+    """The bytes of the lines and of their replies, and how many they are."""
+    lines, replies = zip(*pairs)
+    return "".join(lines).encode(), "".join(replies).encode(), len(lines)
+
+
+class Policy:
+    """A graph with this many associations and prohibitions, and the lines that make it. `into` has the containers of
+    each element, `above` what contains it, and `given` how many associations give a user a right at an element;
+    `barring` has the prohibitions that apply to the asker, in order."""
+
+    def __init__(self, associations, prohibitions):
+        self.random = random.Random(1)
+        self.into, self.above, self.associations = {}, {}, {}
+        self.lines, self.replies, self.version = [], [], 0
+        self.classes = [f"c{n}" for n in range(CLASSES)]
+        for name, containers in (("pm", []), ("pm_admins", ["pm"]), ("root", ["pm_admins"])):
+            self.put(name, containers)
+        for name in self.classes:
+            self.put(name, [])
+            self.make(f'"cmd":"create_pc","name":"{name}","proc":0')
+        self.populate()
+        self.associate_at_random(associations)
+        self.given = {"root": self.given_to("root")}
+        for n in range(PROCESSES):
+            self.make('"cmd":"start_process","session":0', f'"process":{n + 1},')
+        self.barring = []
+        for n in range(prohibitions):
+            self.prohibit(f"p{n}")
+
+    def populate(self):
+        for tree, cmd in (("u", "create_ua"), ("o", "create_oa")):
+            for n in range(LEVELS * WIDE):
+                self.create(cmd, f"{tree}{n}", self.upper(tree, n))
+        for n in range(USERS):
+            self.create("create_user", f"user{n}", self.last("u"))
+        for n in range(OBJECTS):
+            self.create("create_object", f"object{n}", self.last("o"))
+            if n % 4 == 0:
+                self.assign(f"object{n}", self.last("o"))
+        for _ in range(3):
+            self.assign("root", self.last("u"))
+
+    def make(self, line, told=""):
+        """The next line that makes the policy. It is accepted, and the reply tells this too."""
+        self.version += 1
+        self.lines.append(line)
+        self.replies.append(f'"ok":"done",{told}"v":{self.version}')
+
+    def put(self, name, containers):
+        """An element that contains no other is in these containers from now on."""
+        self.into[name] = containers
+        self.above[name] = {name}.union(*(self.above[container] for container in containers))
+
+    def upper(self, tree, n):
+        """The container of the n-th attribute: a class, or an attribute of the level above."""
+        if n < WIDE:
+            return self.classes[n % CLASSES]
+        return f"{tree}{n - n % WIDE - WIDE + self.random.randrange(WIDE)}"
+
+    def last(self, tree):
+        return f"{tree}{(LEVELS - 1) * WIDE + self.random.randrange(WIDE)}"
+
+    def create(self, cmd, name, into):
+        self.put(name, [into])
+        self.make(f'"cmd":"{cmd}","into":"{into}","name":"{name}","proc":0')
+
+    def assign(self, name, to):
+        if to not in self.above[name]:
+            self.put(name, self.into[name] + [to])
+            self.make(f'"cmd":"assign","from":"{name}","proc":0,"to":"{to}"')
+
+    def associate(self, ua, at, rights):
+        self.associations[ua, at] = rights
+        named = ",".join(f'"{right}"' for right in rights)
+        self.make(f'"at":"{at}","cmd":"associate","proc":0,"rights":[{named}],"ua":"{ua}"')
+
+    def associate_at_random(self, count):
+        pairs = {}
+        while len(pairs) < count:
+            pair = tuple(f"{tree}{self.random.randrange(LEVELS * WIDE)}" for tree in "uo")
+            pairs[pair] = ("read",) if len(pairs) % 2 else ("read", "write")
+        for (ua, at), rights in pairs.items():
+            self.associate(ua, at, rights)
+
+    def given_to(self, user):
+        standing = ((at, rights) for (ua, at), rights in self.associations.items() if ua in self.above[user])
+        return Counter((right, at) for at, rights in standing for right in rights)
+
+    def subject(self):
+        """A subject at random, and whether it is `root`, process 1, or an attribute that contains `root`."""
+        kind = self.random.choice(("user", "ua", "process"))
+        if kind == "process":
+            number = 1 + self.random.randrange(PROCESSES)
+            return f'{{"process":{number}}}', number == 1
+        if kind == "user":
+            number = self.random.randrange(USERS + 1)
+            return ('{"user":"root"}', True) if number == USERS else (f'{{"user":"user{number}"}}', False)
+        name = f"u{self.random.randrange(LEVELS * WIDE)}"
+        return f'{{"ua":"{name}"}}', name in self.above["root"]
+
+    def prohibit(self, name):
+        """A prohibition whose range is narrow, so that most accesses look at every one."""
+        subject, applies = self.subject()
+        rights = self.random.choice((("read",), ("write",), ("read", "write"), ("assign", "review")))
+        mode = self.random.choice(("all", "any"))
+        inc = [f"o{WIDE + self.random.randrange(LEVELS * WIDE - WIDE)}" for _ in range(self.random.randrange(1, 3))]
+        exc = [f"object{self.random.randrange(OBJECTS)}"] if mode == "all" else []
+        named = [",".join(f'"{item}"' for item in items) for items in (exc, inc, rights)]
+        self.make(
+            f'"cmd":"prohibit","exc":[{named[0]}],"inc":[{named[1]}],"mode":"{mode}","name":"{name}","proc":0,'
+            f'"rights":[{named[2]}],"subject":{subject}'
+        )
+        if applies:
+            self.barring.append((name, rights, mode, inc, exc))
+
+    def covers(self, bar, right, target):
+        _, rights, mode, inc, exc = bar
+        inside = [place in self.above[target] for place in inc]
+        outside = [place not in self.above[target] for place in exc]
+        ranged = all(inside) and all(outside) if mode == "all" else any(inside) or any(outside)
+        return right in rights and ranged
+
+    def answer(self, user, right, target):
+        """What the user is told: the first class of the target in which no association gives the right, else the first
+        prohibition that applies and covers, else granted. With prohibitions the user is `root`, by process 1."""
+        given = self.given[user]
+        for name in self.classes:
+            gives = (given.get((right, at)) and name in self.above[at] for at in self.above[target])
+            if name in self.above[target] and not any(gives):
+                return f'"class":"{name}",', f'"no":"denied","right":"{right}","target":"{target}"'
+        for bar in self.barring:
+            if self.covers(bar, right, target):
+                return "", f'"no":"denied","prohibition":"{bar[0]}","right":"{right}","target":"{target}"'
+        return GRANTED
+
+    def building(self):
+        pairs = zip(self.lines, self.replies)
+        return joined(tuple('{"id":%d,%s}\n' % (i, text) for text in pair) for i, pair in enumerate(pairs))
+
+    def access(self, i):
+        """An access at random by process 1, and its reply."""
+        right, target = self.random.choice(("read", "write")), f"object{self.random.randrange(OBJECTS)}"
+        line = '{"cmd":"access","id":%d,"proc":1,"right":"%s","target":"%s"}\n' % (i, right, target)
+        return line, self.replied(i, self.answer("root", right, target))
+
+    def replied(self, i, answer):
+        return '{%s"id":%d,%s,"v":%d}\n' % (answer[0], i, answer[1], self.version)
+
+    def accesses(self, count):
+        return joined(self.access(i) for i in range(count))
+
+
+def build_up(policy):
+    """Starts the program and makes the policy."""
+    started = begin([PROGRAM, "run"])
+    lines, wanted, count = policy.building()
+    check(feed(started[0], lines, count)[1], wanted, "building")
+    return started
