@@ -1,8 +1,9 @@
 pub mod Asking
-pub mod Members
 pub mod Bounds
 pub mod Fair
 pub mod Fields
+pub mod Members
 pub mod Names
 pub mod Replied
 pub mod Replying
+pub mod Taken

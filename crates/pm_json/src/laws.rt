@@ -1,6 +1,12 @@
-//! Laws of replies: how long a line can be, and that it has one meaning.
+//! Laws of lines: how long a reply's can be, that it has one meaning, and that the words of commands are theirs alone.
 
-ghost use Rattle.std.specs.Prelude.{ℕ, List, Option, length, ◌≡◌, ◌≤◌};
+ghost use Rattle.std.specs.Prelude.{ℕ, List, Option, IsSome, Some, length, ◌≡◌, ◌≤◌};
+ghost use Rattle.serde_json.specs.Data.{Data};
+ghost use Rattle.pm_model.specs.State.{Graph};
+ghost use Rattle.pm_model.specs.Asked.{row_of};
+ghost use Rattle.pm_model.specs.Effect.{refusal};
+ghost use Rattle.pm_model.specs.declared.requests.Change.TheVariants.{DefineRight};
+ghost use Rattle.pm_model.specs.declared.replies.Refusal.TheVariants.{NameTaken};
 ghost use Rattle.pm_model.specs.Text.{text};
 ghost use Rattle.pm_model.specs.declared.replies.Reply.{Reply};
 ghost use Rattle.pm_json.specs.Printable.{IsPrintable};
@@ -19,4 +25,10 @@ pub fn line_has_one_meaning()
         → IsPrintable id version names reply → IsPrintable other_id other_version other_names other
         → text id version names reply ≡ text other_id other_version other_names other
         → (id ≡ other_id) × (version ≡ other_version) × (shown names reply ≡ shown other_names other) }
+{}
+
+/// No right can be defined by the word of a command, whatever the graph: what a line says under `cmd` is
+/// never the name of a right.
+pub fn command_word_is_taken()
+    ensures { (G : Graph) (look : List ℕ → Option Data) (word : List ℕ) → IsSome (row_of look word) → refusal G (DefineRight word) ≡ Some NameTaken }
 {}
