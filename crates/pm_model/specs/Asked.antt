@@ -1,7 +1,6 @@
 -- What a line asks, by a look-up of its members. JSON itself is serde_json's word `read`; the forms and their order are
 -- the project's own.
-use Rattle.std.specs.Prelude.{ℕ, ◌+◌, ◌^◌, List, [], ◌∷◌, ◌++◌, ◌&&◌, if◌then◌else◌, nat_lt, nat_le, length, bytes_eq, Option, None, Some, option_and_then, option_map, Result, Ok, Err}
-use Rattle.std.specs.List.{list_any}
+use Rattle.std.specs.Prelude.{ℕ, ◌+◌, ◌^◌, List, [], ◌∷◌, ◌&&◌, if◌then◌else◌, nat_lt, nat_le, length, filter, not, bytes_eq, Option, None, Some, option_and_then, option_map, Result, Ok, Err}
 use Rattle.std.specs.Str.{is_utf8}
 use Rattle.serde_json.specs.Data.{Data, Items, no_items, item}
 use Rattle.serde_json.specs.Read.{read}
@@ -14,18 +13,16 @@ use Rattle.pm_model.specs.declared.words.Key.TheVariants as key
 use Rattle.pm_model.specs.declared.words.Word.TheVariants as word
 use Rattle.pm_model.specs.declared.lines.BadLine.{BadLine}
 use Rattle.pm_model.specs.declared.lines.BadLine.TheVariants.{NotJson, NotRequest, UnknownCommand, BadField}
-use Rattle.pm_model.specs.declared.lines.Field.{Field}
-use Rattle.pm_model.specs.declared.lines.Field.TheVariants as field
 use Rattle.pm_model.specs.declared.elements.Kind.{Kind}
 use Rattle.pm_model.specs.declared.elements.Kind.TheVariants.{User, Ua, Object, Oa}
 use Rattle.pm_model.specs.declared.requests.Command.{Command}
-use Rattle.pm_model.specs.declared.requests.Command.TheVariants.{CreatePc, Create, Delete, Assign, Deassign, Associate, Dissociate, Prohibit, Lift, DefineRight}
+use Rattle.pm_model.specs.declared.requests.Command.TheVariants as command
 use Rattle.pm_model.specs.declared.prohibitions.Mode.{Mode}
 use Rattle.pm_model.specs.declared.prohibitions.Mode.TheVariants as mode
 use Rattle.pm_model.specs.declared.prohibitions.Subject.{Subject}
 use Rattle.pm_model.specs.declared.prohibitions.Subject.TheVariants as subject
 use Rattle.pm_model.specs.declared.requests.Body.{Body}
-use Rattle.pm_model.specs.declared.requests.Body.TheVariants.{Version, OpenSession, CloseSession, StartProcess, EndProcess, Access, Admin}
+use Rattle.pm_model.specs.declared.requests.Body.TheVariants as body
 use Rattle.pm_model.specs.declared.requests.Request.{Request}
 use Rattle.pm_model.specs.declared.requests.What.{What}
 use Rattle.pm_model.specs.declared.requests.What.TheVariants as what
@@ -56,13 +53,13 @@ abbrev pub names_of : Items → Option (List (List ℕ))
 names_of no_items = Some []
 names_of (item d ds) = option_and_then (λ n. option_map (λ ns. n ∷ ns) (names_of ds)) (name_form d)
 
--- a list without its repeats, behind the names that were seen
-abbrev pub unlike : List (List ℕ) → List (List ℕ) → List (List ℕ)
-unlike seen [] = []
-unlike seen (n ∷ ns) = if list_any (bytes_eq n) seen then unlike seen ns else n ∷ unlike (seen ++ n ∷ []) ns
+-- a list without its repeats: its first name, and then the others
+abbrev pub distinct : List (List ℕ) → List (List ℕ)
+distinct [] = []
+distinct (n ∷ ns) = n ∷ filter (λ m. not (bytes_eq n m)) (distinct ns)
 
 abbrev pub if_some_few : List (List ℕ) → Option (List (List ℕ))
-if_some_few ns = if nat_lt 0 (length ns) && nat_le (length ns) 32 then Some (unlike [] ns) else None
+if_some_few ns = if nat_lt 0 (length ns) && nat_le (length ns) 32 then Some (distinct ns) else None
 
 -- a list of 1 to 32 names, read as a set: its repeats count towards the 32 and are left out
 abbrev pub rights_form : Data → Option (List (List ℕ))
@@ -94,88 +91,88 @@ subject_form d = one_subject (get (key_text key.User) d) (get (key_text key.Ua) 
 
 -- ---- fields
 
-abbrev pub required : {A : Type 0} → Field → Option A → Result A BadLine
-required f None = Err (BadField f)
-required f (Some a) = Ok a
+abbrev pub required : {A : Type 0} → Key → Option A → Result A BadLine
+required k None = Err (BadField k)
+required k (Some a) = Ok a
 
 -- the member is absent, or has the form
-abbrev pub optional : {A : Type 0} → Field → Option Data → (Data → Option A) → Result (Option A) BadLine
+abbrev pub optional : {A : Type 0} → Key → Option Data → (Data → Option A) → Result (Option A) BadLine
 optional f None form = Ok None
 optional f (Some d) form = and_then (required f (form d)) (λ a. Ok (Some a))
 
 -- ---- lines, by what stands at each key of the line's object
 
 module _ (look : List ℕ → Option Data) where
-  abbrev pub name_at : Field → Key → Result (List ℕ) BadLine
-  name_at f k = required f (option_and_then name_form (look (key_text k)))
+  abbrev pub name_at : Key → Result (List ℕ) BadLine
+  name_at k = required k (option_and_then name_form (look (key_text k)))
 
-  abbrev pub number_at : Field → Key → Result ℕ BadLine
-  number_at f k = required f (option_and_then short_form (look (key_text k)))
+  abbrev pub number_at : Key → Result ℕ BadLine
+  number_at k = required k (option_and_then short_form (look (key_text k)))
 
   abbrev pub process_of : Result ℕ BadLine
-  process_of = number_at field.Proc key.Proc
+  process_of = number_at key.Proc
 
   abbrev pub open_session_of : Result Body BadLine
-  open_session_of = and_then (name_at field.User key.User) (λ user. Ok (OpenSession user))
+  open_session_of = and_then (name_at key.User) (λ user. Ok (body.OpenSession user))
 
   abbrev pub close_session_of : Result Body BadLine
-  close_session_of = and_then (number_at field.Session key.Session) (λ session. Ok (CloseSession session))
+  close_session_of = and_then (number_at key.Session) (λ session. Ok (body.CloseSession session))
 
   abbrev pub start_process_of : Result Body BadLine
-  start_process_of = and_then (number_at field.Session key.Session) (λ session. Ok (StartProcess session))
+  start_process_of = and_then (number_at key.Session) (λ session. Ok (body.StartProcess session))
 
   abbrev pub end_process_of : Result Body BadLine
-  end_process_of = and_then (number_at field.Process key.Process) (λ process. Ok (EndProcess process))
+  end_process_of = and_then (number_at key.Process) (λ process. Ok (body.EndProcess process))
 
   abbrev pub create_pc_of : Result Command BadLine
-  create_pc_of = and_then (name_at field.Name key.Name) (λ name. Ok (CreatePc name))
+  create_pc_of = and_then (name_at key.Name) (λ name. Ok (command.CreatePc name))
 
   abbrev pub create_of : Kind → Result Command BadLine
   create_of kind =
-      and_then (name_at field.Name key.Name) (λ name.
-      and_then (name_at field.Into key.Into) (λ into. Ok (Create kind name into)))
+      and_then (name_at key.Name) (λ name.
+      and_then (name_at key.Into) (λ into. Ok (command.Create kind name into)))
 
   abbrev pub delete_of : Result Command BadLine
-  delete_of = and_then (name_at field.Name key.Name) (λ name. Ok (Delete name))
+  delete_of = and_then (name_at key.Name) (λ name. Ok (command.Delete name))
 
   -- the fields `from` and `to`
   abbrev pub ends_of : Result (List ℕ × List ℕ) BadLine
   ends_of =
-      and_then (name_at field.From key.From) (λ from.
-      and_then (name_at field.To key.To) (λ to. Ok (from, to)))
+      and_then (name_at key.From) (λ from.
+      and_then (name_at key.To) (λ to. Ok (from, to)))
 
   abbrev pub assign_of : Result Command BadLine
-  assign_of = and_then ends_of (λ ends. Ok (Assign ends.0 ends.1))
+  assign_of = and_then ends_of (λ ends. Ok (command.Assign ends.0 ends.1))
 
   abbrev pub deassign_of : Result Command BadLine
-  deassign_of = and_then ends_of (λ ends. Ok (Deassign ends.0 ends.1))
+  deassign_of = and_then ends_of (λ ends. Ok (command.Deassign ends.0 ends.1))
 
   -- the set of rights
   abbrev pub rights_at : Result (List (List ℕ)) BadLine
-  rights_at = required field.Rights (option_and_then rights_form (look (key_text key.Rights)))
+  rights_at = required key.Rights (option_and_then rights_form (look (key_text key.Rights)))
 
   abbrev pub associate_of : Result Command BadLine
   associate_of =
-      and_then (name_at field.Ua key.Ua) (λ ua.
+      and_then (name_at key.Ua) (λ ua.
       and_then rights_at (λ rights.
-      and_then (name_at field.At key.At) (λ at. Ok (Associate ua rights at))))
+      and_then (name_at key.At) (λ at. Ok (command.Associate ua rights at))))
 
   abbrev pub dissociate_of : Result Command BadLine
   dissociate_of =
-      and_then (name_at field.Ua key.Ua) (λ ua.
-      and_then (name_at field.At key.At) (λ at. Ok (Dissociate ua at)))
+      and_then (name_at key.Ua) (λ ua.
+      and_then (name_at key.At) (λ at. Ok (command.Dissociate ua at)))
 
   abbrev pub subject_at : Result (Subject (List ℕ) ℕ) BadLine
-  subject_at = required field.Subject (option_and_then subject_form (look (key_text key.Subject)))
+  subject_at = required key.Subject (option_and_then subject_form (look (key_text key.Subject)))
 
   abbrev pub mode_at : Result Mode BadLine
-  mode_at = required field.Mode (option_and_then mode_form (look (key_text key.Mode)))
+  mode_at = required key.Mode (option_and_then mode_form (look (key_text key.Mode)))
 
   abbrev pub inc_at : Result (List (List ℕ)) BadLine
-  inc_at = required field.Inc (option_and_then list_form (look (key_text key.Inc)))
+  inc_at = required key.Inc (option_and_then list_form (look (key_text key.Inc)))
 
   abbrev pub exc_at : List (List ℕ) → Result (List (List ℕ)) BadLine
-  exc_at inc = required field.Exc (option_and_then (if_few_beside inc) (option_and_then list_form (look (key_text key.Exc))))
+  exc_at inc = required key.Exc (option_and_then (if_few_beside inc) (option_and_then list_form (look (key_text key.Exc))))
 
   -- the fields `inc` and `exc`
   abbrev pub sets_of : Result (List (List ℕ) × List (List ℕ)) BadLine
@@ -183,31 +180,31 @@ module _ (look : List ℕ → Option Data) where
 
   abbrev pub prohibit_of : Result Command BadLine
   prohibit_of =
-      and_then (name_at field.Name key.Name) (λ name.
+      and_then (name_at key.Name) (λ name.
       and_then subject_at (λ subject.
       and_then rights_at (λ rights.
       and_then sets_of (λ sets.
-      and_then mode_at (λ mode. Ok (Prohibit name subject rights sets.0 sets.1 mode))))))
+      and_then mode_at (λ mode. Ok (command.Prohibit name subject rights sets.0 sets.1 mode))))))
 
   abbrev pub lift_of : Result Command BadLine
-  lift_of = and_then (name_at field.Name key.Name) (λ name. Ok (Lift name))
+  lift_of = and_then (name_at key.Name) (λ name. Ok (command.Lift name))
 
   abbrev pub define_right_of : Result Command BadLine
-  define_right_of = and_then (name_at field.Name key.Name) (λ name. Ok (DefineRight name))
+  define_right_of = and_then (name_at key.Name) (λ name. Ok (command.DefineRight name))
 
   abbrev pub access_of : Result Body BadLine
   access_of =
       and_then process_of (λ process.
-      and_then (name_at field.Right key.Right) (λ right.
-      and_then (name_at field.Target key.Target) (λ target. Ok (Access process right target))))
+      and_then (name_at key.Right) (λ right.
+      and_then (name_at key.Target) (λ target. Ok (body.Access process right target))))
 
   abbrev pub admin_of : Result Command BadLine → Result Body BadLine
-  admin_of command = and_then process_of (λ process. and_then command (λ c. Ok (Admin process c)))
+  admin_of command = and_then process_of (λ process. and_then command (λ c. Ok (body.Admin process c)))
 
   -- the row of the word, where it is a command's
   abbrev pub row_of : List ℕ → Option (Result Body BadLine)
   row_of w =
-      if bytes_eq w (word_text word.Version) then Some (Ok Version)
+      if bytes_eq w (word_text word.Version) then Some (Ok body.Version)
       else (if bytes_eq w (word_text word.OpenSession) then Some open_session_of
       else (if bytes_eq w (word_text word.CloseSession) then Some close_session_of
       else (if bytes_eq w (word_text word.StartProcess) then Some start_process_of
@@ -231,8 +228,8 @@ module _ (look : List ℕ → Option Data) where
   -- `id`, `after`, then the fields of the row
   abbrev pub with_head : Result Body BadLine → Result Request BadLine
   with_head row =
-      and_then (optional field.Id (look (key_text key.Id)) whole_form) (λ id.
-      and_then (optional field.After (look (key_text key.After)) whole_form) (λ after.
+      and_then (optional key.Id (look (key_text key.Id)) whole_form) (λ id.
+      and_then (optional key.After (look (key_text key.After)) whole_form) (λ after.
       and_then row (λ body. Ok (record { after = after; body = body }))))
 
   abbrev pub rowed : Option (Result Body BadLine) → Result Request BadLine

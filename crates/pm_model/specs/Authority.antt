@@ -14,7 +14,7 @@ use Rattle.pm_model.specs.declared.prohibitions.Subject.{Subject}
 use Rattle.pm_model.specs.declared.prohibitions.Subject.TheVariants as subject
 use Rattle.pm_model.specs.declared.requests.Command.{Command}
 use Rattle.pm_model.specs.declared.requests.Change.{Change}
-use Rattle.pm_model.specs.declared.requests.Change.TheVariants.{Create, Delete, Assign, Deassign, Associate, Dissociate, Prohibit, Lift, DefineRight}
+use Rattle.pm_model.specs.declared.requests.Change.TheVariants as change
 use Rattle.pm_model.specs.declared.replies.Reason.{Reason}
 use Rattle.pm_model.specs.declared.replies.Reason.TheVariants as reason
 use Rattle.pm_model.specs.declared.replies.Refusal.{Refusal}
@@ -73,16 +73,16 @@ prohibited_at G (Some p) = (to_prohibit, subject_element G p.subject) ∷ []
 
 -- each a right and an element
 abbrev pub required : Graph → Change → List (ℕ × ℕ)
-required G (Create id kind name None) = (right_to_create kind, pm) ∷ []
-required G (Create id kind name (Some into)) = (right_to_create kind, into) ∷ []
-required G (Delete id) = (to_delete, id) ∷ []
-required G (Assign x y) = (to_assign, x) ∷ (to_assign_to, y) ∷ []
-required G (Deassign x y) = (to_deassign, x) ∷ (to_deassign_from, y) ∷ []
-required G (Associate u r t) = (to_associate, u) ∷ (to_associate_to, t) ∷ []
-required G (Dissociate u t) = (to_associate, u) ∷ (to_associate_to, t) ∷ []
-required G (Prohibit p) = (to_prohibit, subject_element G p.subject) ∷ map (λ a. (to_prohibit_to, a)) (p.inc ++ p.exc)
-required G (Lift i) = prohibited_at G (slice_get G.prohibitions i)
-required G (DefineRight name) = (right_to_create Pc, pm) ∷ []
+required G (change.Create id kind name None) = (right_to_create kind, pm) ∷ []
+required G (change.Create id kind name (Some into)) = (right_to_create kind, into) ∷ []
+required G (change.Delete id) = (to_delete, id) ∷ []
+required G (change.Assign x y) = (to_assign, x) ∷ (to_assign_to, y) ∷ []
+required G (change.Deassign x y) = (to_deassign, x) ∷ (to_deassign_from, y) ∷ []
+required G (change.Associate u r t) = (to_associate, u) ∷ (to_associate_to, t) ∷ []
+required G (change.Dissociate u t) = (to_associate, u) ∷ (to_associate_to, t) ∷ []
+required G (change.Prohibit p) = (to_prohibit, subject_element G p.subject) ∷ map (λ a. (to_prohibit_to, a)) (p.inc ++ p.exc)
+required G (change.Lift i) = prohibited_at G (slice_get G.prohibitions i)
+required G (change.DefineRight name) = (right_to_create Pc, pm) ∷ []
 required G _ = []
 
 -- ---- allowed

@@ -16,7 +16,7 @@ use Rattle.pm_model.specs.declared.elements.Kind.{Kind}
 use Rattle.pm_model.specs.declared.elements.Kind.TheVariants.{User, Ua, Object, Oa, Pc}
 use Rattle.pm_model.specs.declared.elements.Element.{Element}
 use Rattle.pm_model.specs.declared.requests.Change.{Change}
-use Rattle.pm_model.specs.declared.requests.Change.TheVariants.{Create, Delete, Assign, Deassign, Associate, Dissociate, OpenSession, CloseSession, StartProcess, EndProcess, Prohibit, Lift, DefineRight}
+use Rattle.pm_model.specs.declared.requests.Change.TheVariants as change
 use Rattle.pm_model.specs.declared.rights.Association.{Association}
 use Rattle.pm_model.specs.declared.replies.Refusal.{Refusal}
 use Rattle.pm_model.specs.declared.replies.Refusal.TheVariants.{BadKinds, NameTaken, Already, Absent, Cycle, Occupied, InUse, LastContainer, Builtin, Full}
@@ -173,45 +173,45 @@ abbrev pub dissociate_checks : List Association → ℕ → ℕ → List (Bool �
 dissociate_checks associations ua at = (not (list_any (joins ua at) associations), Absent) ∷ []
 
 abbrev pub checks : Graph → Change → List (Bool × Refusal)
-checks G (Create id kind name into) = create_checks G.elements G.assigned kind name into
-checks G (Delete id) =
+checks G (change.Create id kind name into) = create_checks G.elements G.assigned kind name into
+checks G (change.Delete id) =
     (is_builtin_element id, Builtin) ∷ (has_child G.assigned id, Occupied) ∷ (is_in_use G id, InUse) ∷ []
-checks G (Assign x y) = assign_checks G.elements G.assigned x y
-checks G (Deassign x y) = (is_builtin x y, Builtin) ∷ deassign_checks G.assigned x y
-checks G (Associate u r t) =
+checks G (change.Assign x y) = assign_checks G.elements G.assigned x y
+checks G (change.Deassign x y) = (is_builtin x y, Builtin) ∷ deassign_checks G.assigned x y
+checks G (change.Associate u r t) =
     (not (both may_associate (element_at G.elements u) (element_at G.elements t)), BadKinds) ∷ associate_checks G.associations u t
-checks G (Dissociate u t) = dissociate_checks G.associations u t
-checks G (OpenSession u) = (not (has_kind is_user_kind (element_at G.elements u)), BadKinds) ∷ open_checks G.procs
-checks G (CloseSession n) = close_checks G.procs n
-checks G (StartProcess n) = start_checks G.procs n
-checks G (EndProcess n) = end_checks G.procs n
-checks G (Prohibit p) = (not (may_prohibit G.elements p), BadKinds) ∷ prohibit_checks G.prohibitions p
-checks G (Lift i) = []
-checks G (DefineRight name) = define_checks G.rights name
+checks G (change.Dissociate u t) = dissociate_checks G.associations u t
+checks G (change.OpenSession u) = (not (has_kind is_user_kind (element_at G.elements u)), BadKinds) ∷ open_checks G.procs
+checks G (change.CloseSession n) = close_checks G.procs n
+checks G (change.StartProcess n) = start_checks G.procs n
+checks G (change.EndProcess n) = end_checks G.procs n
+checks G (change.Prohibit p) = (not (may_prohibit G.elements p), BadKinds) ∷ prohibit_checks G.prohibitions p
+checks G (change.Lift i) = []
+checks G (change.DefineRight name) = define_checks G.rights name
 
 -- ---- effects
 
 abbrev pub changed : Graph → Change → Graph
-changed G (Create id kind name into) =
+changed G (change.Create id kind name into) =
     record G { elements = placed (element id kind name) G.elements; assigned = with_pair into id G.assigned }
-changed G (Delete id) =
+changed G (change.Delete id) =
     record G {
       elements = filter (λ e. not (is_numbered id e)) G.elements;
       assigned = filter (λ pair. not (is_from id pair)) G.assigned;
     }
-changed G (Assign x y) = record G { assigned = G.assigned ++ (x, y) ∷ [] }
-changed G (Deassign x y) = record G { assigned = filter (λ pair. not (is_pair x y pair)) G.assigned }
-changed G (Associate u r t) = record G { associations = joined (record { ua = u; rights = r; at = t }) G.associations }
-changed G (Dissociate u t) = record G { associations = filter (λ a. not (joins u t a)) G.associations }
-changed G (OpenSession u) = record G { procs = with_session u G.procs }
-changed G (CloseSession n) =
+changed G (change.Assign x y) = record G { assigned = G.assigned ++ (x, y) ∷ [] }
+changed G (change.Deassign x y) = record G { assigned = filter (λ pair. not (is_pair x y pair)) G.assigned }
+changed G (change.Associate u r t) = record G { associations = joined (record { ua = u; rights = r; at = t }) G.associations }
+changed G (change.Dissociate u t) = record G { associations = filter (λ a. not (joins u t a)) G.associations }
+changed G (change.OpenSession u) = record G { procs = with_session u G.procs }
+changed G (change.CloseSession n) =
     record G { procs = without_session n G.procs; prohibitions = without_processes (processes_of G.procs n) G.prohibitions }
-changed G (StartProcess n) = record G { procs = with_process n G.procs }
-changed G (EndProcess n) =
+changed G (change.StartProcess n) = record G { procs = with_process n G.procs }
+changed G (change.EndProcess n) =
     record G { procs = without_process n G.procs; prohibitions = without_processes (n ∷ []) G.prohibitions }
-changed G (Prohibit p) = record G { prohibitions = G.prohibitions ++ p ∷ [] }
-changed G (Lift i) = record G { prohibitions = remove G.prohibitions i }
-changed G (DefineRight name) = record G { rights = G.rights ++ name ∷ [] }
+changed G (change.Prohibit p) = record G { prohibitions = G.prohibitions ++ p ∷ [] }
+changed G (change.Lift i) = record G { prohibitions = remove G.prohibitions i }
+changed G (change.DefineRight name) = record G { rights = G.rights ++ name ∷ [] }
 
 abbrev pub refusal : Graph → Change → Option Refusal
 refusal G change = first_of (checks G change)

@@ -3,19 +3,19 @@
 use Rattle.std.specs.Prelude.{◌≡◌, ◌<◌, ◌^◌, ◌-◌, ℕ, ◌+◌, ◌&&◌, true, false, ◌≤◌, List, [], ◌∷◌, length, map, take, bytes_eq, IsSome, Some, None}
 use Rattle.std.specs.List.{list_any}
 use Rattle.pm_model.specs.Containment.{contained, Leads}
-use Rattle.pm_model.specs.RightSet.{opening_rights}
+use Rattle.pm_model.specs.RightSet.{opening_rights, max_rights}
 use Rattle.pm_model.specs.declared.rights.Association.{Association}
 use Rattle.pm_model.specs.State.{is_class, Graph, element_at, is_named, root, opening_elements, opening_assigned}
-use Rattle.pm_model.specs.Sessions.{Procs, session, process, session_at, process_at}
+use Rattle.pm_model.specs.Sessions.{Procs, session, process, session_at, process_at, max_sessions, max_processes}
 use Rattle.pm_model.specs.declared.sessions.Session.{Session}
 use Rattle.pm_model.specs.declared.sessions.Process.{Process}
-use Rattle.pm_model.specs.Effect.{both, may_assign, is_pair, may_associate, joins}
+use Rattle.pm_model.specs.Effect.{both, has_kind, is_user_kind, may_assign, is_pair, may_associate, joins, max_elements, max_assignments, max_associations}
 use Rattle.pm_model.specs.Resolve.{unused}
 use Rattle.pm_model.specs.declared.elements.Kind.TheVariants.{Pc}
 use Rattle.pm_model.specs.declared.elements.Element.{Element}
 use Rattle.pm_model.specs.declared.requests.Change.{Change}
-use Rattle.pm_model.specs.declared.requests.Change.TheVariants.{Create, Delete, Assign, Deassign, Associate, Dissociate, OpenSession, CloseSession, StartProcess, EndProcess, Prohibit, Lift, DefineRight}
-use Rattle.pm_model.specs.Prohibitions.{is_called, has_empty_range}
+use Rattle.pm_model.specs.declared.requests.Change.TheVariants as change
+use Rattle.pm_model.specs.Prohibitions.{is_called, has_empty_range, max_prohibitions}
 use Rattle.pm_model.specs.declared.prohibitions.Prohibition.{Prohibition}
 use Rattle.pm_model.specs.declared.prohibitions.Subject.{Subject}
 use Rattle.pm_model.specs.declared.prohibitions.Subject.TheVariants as subject
@@ -27,6 +27,10 @@ Each P (x ∷ xs) = P x × Each P xs
 
 abbrev pub IsLive : List Element → ℕ → Type 0
 IsLive es n = IsSome (element_at es n)
+
+-- the element is live, and a user
+abbrev pub IsUser : List Element → ℕ → Type 0
+IsUser es n = has_kind is_user_kind (element_at es n) ≡ true
 
 -- ---- elements
 
@@ -43,7 +47,7 @@ HaveOwnNames (e ∷ es) = (list_any (is_named e.name) es ≡ false) × HaveOwnNa
 pub record AreElements (es : List Element) : Type 0 where
   pub rising : AreRising 0 es
   pub named : HaveOwnNames es
-  pub few : length es ≤ 16384
+  pub few : length es ≤ max_elements
 
 -- ---- assignments
 
@@ -69,7 +73,7 @@ pub record AreAssigned (es : List Element) (assigned : List (ℕ × ℕ)) : Type
   pub once : StandOnce assigned
   pub acyclic : IsAcyclic assigned
   pub classes : Each (IsInClass es assigned) es
-  pub few : length assigned ≤ 131072
+  pub few : length assigned ≤ max_assignments
 
 -- ---- associations
 
@@ -96,7 +100,7 @@ pub record AreAssociations (es : List Element) (rights : List (List ℕ)) (assoc
   pub once : JoinOnce associations
   pub ordered : AreByAttribute 0 associations
   pub named : Each (λ (a : Association). AreNamed rights a.rights) associations
-  pub few : length associations ≤ 65536
+  pub few : length associations ≤ max_associations
 
 -- ---- sessions and processes
 
@@ -112,12 +116,12 @@ pub record AreNumbered (P : Procs) : Type 0 where
 
 pub record AreProcs (es : List Element) (P : Procs) : Type 0 where
   pub numbered : AreNumbered P
-  pub users : Each (λ (s : Session). IsLive es s.user) P.sessions
+  pub users : Each (λ (s : Session). IsUser es s.user) P.sessions
   pub in_sessions : Each (λ (p : Process). IsSome (session_at P p.session)) P.processes
   pub opening_session : session_at P 0 ≡ Some (session 0 root)
   pub opening_process : process_at P 0 ≡ Some (process 0 0)
-  pub few_sessions : length P.sessions ≤ 4096
-  pub few_processes : length P.processes ≤ 16384
+  pub few_sessions : length P.sessions ≤ max_sessions
+  pub few_processes : length P.processes ≤ max_processes
 
 -- ---- prohibitions
 
@@ -143,7 +147,7 @@ pub record IsProhibition (es : List Element) (P : Procs) (rights : List (List �
 pub record AreProhibitions (es : List Element) (P : Procs) (rights : List (List ℕ)) (ps : List Prohibition) : Type 0 where
   pub once : AreOnceCalled ps
   pub each : Each (IsProhibition es P rights) ps
-  pub few : length ps ≤ 4096
+  pub few : length ps ≤ max_prohibitions
 
 -- ---- rights
 
@@ -155,7 +159,7 @@ NameOnce (n ∷ ns) = (list_any (bytes_eq n) ns ≡ false) × NameOnce ns
 pub record AreRights (rights : List (List ℕ)) : Type 0 where
   pub opening : take 17 rights ≡ opening_rights
   pub once : NameOnce rights
-  pub few : length rights ≤ 64
+  pub few : length rights ≤ max_rights
 
 -- ---- the opening's
 
@@ -187,18 +191,18 @@ HasNext next = next < 2 ^ 32 - 1
 -- what the change names is live, what it makes has the next number, and there is a next number for a new session or
 -- process; of a session or process that is named the preconditions say whether it is live
 abbrev pub IsNamed : Graph → Change → Type 0
-IsNamed G (Create id kind name None) = (id ≡ unused G.elements) × (kind ≡ Pc)
-IsNamed G (Create id kind name (Some into)) = (id ≡ unused G.elements) × IsLive G.elements into
-IsNamed G (Delete id) = IsLive G.elements id
-IsNamed G (Assign x y) = IsLive G.elements x × IsLive G.elements y
-IsNamed G (Deassign x y) = IsLive G.elements x × IsLive G.elements y
-IsNamed G (Associate u r t) = IsLive G.elements u × IsLive G.elements t × AreNamed G.rights r
-IsNamed G (Dissociate u t) = IsLive G.elements u × IsLive G.elements t
-IsNamed G (OpenSession u) = IsLive G.elements u × HasNext G.procs.next_session
-IsNamed G (CloseSession n) = Unit {0}
-IsNamed G (StartProcess n) = HasNext G.procs.next_process
-IsNamed G (EndProcess n) = Unit {0}
-IsNamed G (Prohibit p) =
+IsNamed G (change.Create id kind name None) = (id ≡ unused G.elements) × (kind ≡ Pc)
+IsNamed G (change.Create id kind name (Some into)) = (id ≡ unused G.elements) × IsLive G.elements into
+IsNamed G (change.Delete id) = IsLive G.elements id
+IsNamed G (change.Assign x y) = IsLive G.elements x × IsLive G.elements y
+IsNamed G (change.Deassign x y) = IsLive G.elements x × IsLive G.elements y
+IsNamed G (change.Associate u r t) = IsLive G.elements u × IsLive G.elements t × AreNamed G.rights r
+IsNamed G (change.Dissociate u t) = IsLive G.elements u × IsLive G.elements t
+IsNamed G (change.OpenSession u) = IsLive G.elements u × HasNext G.procs.next_session
+IsNamed G (change.CloseSession n) = Unit {0}
+IsNamed G (change.StartProcess n) = HasNext G.procs.next_process
+IsNamed G (change.EndProcess n) = Unit {0}
+IsNamed G (change.Prohibit p) =
     IsSubjectLive G.elements G.procs p.subject × Each (IsLive G.elements) p.inc × Each (IsLive G.elements) p.exc × AreNamed G.rights p.rights
-IsNamed G (Lift i) = i < length G.prohibitions
-IsNamed G (DefineRight name) = Unit {0}
+IsNamed G (change.Lift i) = i < length G.prohibitions
+IsNamed G (change.DefineRight name) = Unit {0}

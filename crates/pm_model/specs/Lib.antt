@@ -1,3 +1,4 @@
+pub mod Actions
 pub mod Answer
 pub mod Asked
 pub mod Authority
@@ -13,9 +14,11 @@ pub mod Name
 pub mod NameFields
 pub mod Nameable
 pub mod Object
+pub mod Obligations
 pub mod Prohibitions
 pub mod Recorded
 pub mod Resolve
+pub mod Responses
 pub mod Results
 pub mod RightSet
 pub mod Sessions

@@ -9,7 +9,7 @@ use Rattle.pm_model.specs.declared.elements.Kind.TheVariants.{Pc}
 use Rattle.pm_model.specs.declared.requests.Command.{Command}
 use Rattle.pm_model.specs.declared.requests.Command.TheVariants as command
 use Rattle.pm_model.specs.declared.requests.Change.{Change}
-use Rattle.pm_model.specs.declared.requests.Change.TheVariants.{Create, Delete, Assign, Deassign, Associate, Dissociate, Prohibit, Lift, DefineRight}
+use Rattle.pm_model.specs.declared.requests.Change.TheVariants as change
 use Rattle.pm_model.specs.RightSet.{bit_named, with_right}
 use Rattle.pm_model.specs.Sessions.{is_process}
 use Rattle.pm_model.specs.Prohibitions.{place_called}
@@ -65,16 +65,16 @@ prohibition name subject rights inc exc mode =
     record { name = name; subject = subject; rights = rights; inc = inc; exc = exc; mode = mode }
 
 abbrev pub resolve : Graph → Command → Result Change Refusal
-resolve G (command.CreatePc name) = Ok (Create (unused G.elements) Pc name None)
-resolve G (command.Create kind name into) = and_then (look_up G into) (λ c. Ok (Create (unused G.elements) kind name (Some c)))
-resolve G (command.Delete name) = and_then (look_up G name) (λ n. Ok (Delete n))
-resolve G (command.Assign from to) = and_then (look_up_both G from to) (λ p. Ok (Assign p.0 p.1))
-resolve G (command.Deassign from to) = and_then (look_up_both G from to) (λ p. Ok (Deassign p.0 p.1))
+resolve G (command.CreatePc name) = Ok (change.Create (unused G.elements) Pc name None)
+resolve G (command.Create kind name into) = and_then (look_up G into) (λ c. Ok (change.Create (unused G.elements) kind name (Some c)))
+resolve G (command.Delete name) = and_then (look_up G name) (λ n. Ok (change.Delete n))
+resolve G (command.Assign from to) = and_then (look_up_both G from to) (λ p. Ok (change.Assign p.0 p.1))
+resolve G (command.Deassign from to) = and_then (look_up_both G from to) (λ p. Ok (change.Deassign p.0 p.1))
 resolve G (command.Associate ua rights at) =
-    and_then (look_up G ua) (λ u. and_then (look_up_rights G rights) (λ r. and_then (look_up G at) (λ t. Ok (Associate u r t))))
-resolve G (command.Dissociate ua at) = and_then (look_up_both G ua at) (λ p. Ok (Dissociate p.0 p.1))
+    and_then (look_up G ua) (λ u. and_then (look_up_rights G rights) (λ r. and_then (look_up G at) (λ t. Ok (change.Associate u r t))))
+resolve G (command.Dissociate ua at) = and_then (look_up_both G ua at) (λ p. Ok (change.Dissociate p.0 p.1))
 resolve G (command.Prohibit name subject rights inc exc mode) =
     and_then (look_up_subject G subject) (λ s. and_then (look_up_rights G rights) (λ r.
-    and_then (look_up_all G inc) (λ i. and_then (look_up_all G exc) (λ e. Ok (Prohibit (prohibition name s r i e mode))))))
-resolve G (command.Lift name) = and_then (known name (place_called G.prohibitions name)) (λ i. Ok (Lift i))
-resolve G (command.DefineRight name) = Ok (DefineRight name)
+    and_then (look_up_all G inc) (λ i. and_then (look_up_all G exc) (λ e. Ok (change.Prohibit (prohibition name s r i e mode))))))
+resolve G (command.Lift name) = and_then (known name (place_called G.prohibitions name)) (λ i. Ok (change.Lift i))
+resolve G (command.DefineRight name) = Ok (change.DefineRight name)

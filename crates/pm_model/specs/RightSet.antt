@@ -1,8 +1,11 @@
 -- Rights. Source: the standard's access rights and administrative access rights; their names, their bits and a set as
 -- a number are the project's own.
-use Rattle.std.specs.Prelude.{ℕ, zero, suc, ◌+◌, if◌then◌else◌, Bool, ◌==◌, ◌||◌, ◌^◌, nat_lt, nat_le, List, [], ◌∷◌, length, Option, codes, bytes_eq, bit_or}
+use Rattle.std.specs.Prelude.{ℕ, zero, suc, ◌+◌, if◌then◌else◌, Bool, ◌==◌, ◌||◌, ◌^◌, nat_lt, nat_le, List, [], ◌∷◌, length, Option, codes, bytes_eq, bit_or, map}
 use Rattle.std.specs.List.{list_any, position_from}
 use Rattle.std.specs.Int.{bit_at}
+use Rattle.pm_model.specs.Words.{word_text}
+use Rattle.pm_model.specs.declared.words.Word.{Word}
+use Rattle.pm_model.specs.declared.words.Word.TheVariants as word
 use Rattle.pm_model.specs.declared.replies.Refusal.{Refusal}
 use Rattle.pm_model.specs.declared.replies.Refusal.TheVariants.{NameTaken, Full}
 use Rattle.pm_model.specs.declared.replies.Table.TheVariants as table
@@ -32,15 +35,18 @@ opening_rights =
 abbrev pub max_rights : ℕ
 max_rights = 64
 
+-- the commands, also those that are yet to come
+unfoldable pub commands : List Word
+commands =
+    word.Version ∷ word.OpenSession ∷ word.CloseSession ∷ word.StartProcess ∷ word.EndProcess ∷ word.CreatePc
+    ∷ word.CreateUser ∷ word.CreateUa ∷ word.CreateOa ∷ word.CreateObject ∷ word.Delete ∷ word.Assign
+    ∷ word.Deassign ∷ word.Associate ∷ word.Dissociate ∷ word.Prohibit ∷ word.Lift ∷ word.DefineRight
+    ∷ word.Oblige ∷ word.Withdraw ∷ word.Keep ∷ word.DropReview ∷ word.Access ∷ word.Caps ∷ word.Entries
+    ∷ word.Kept ∷ word.Changes ∷ word.Survey ∷ []
+
 -- the texts that stand under `cmd`: a right that is defined may have none of them for its name
-unfoldable pub command_words : List (List ℕ)
-command_words =
-    codes "version" ∷ codes "open_session" ∷ codes "close_session" ∷ codes "start_process" ∷ codes "end_process"
-    ∷ codes "create_pc" ∷ codes "create_user" ∷ codes "create_ua" ∷ codes "create_oa" ∷ codes "create_object"
-    ∷ codes "delete" ∷ codes "assign" ∷ codes "deassign" ∷ codes "associate" ∷ codes "dissociate"
-    ∷ codes "prohibit" ∷ codes "lift" ∷ codes "define_right" ∷ codes "oblige" ∷ codes "withdraw"
-    ∷ codes "keep" ∷ codes "drop_review" ∷ codes "access"
-    ∷ codes "caps" ∷ codes "entries" ∷ codes "kept" ∷ codes "changes" ∷ codes "survey" ∷ []
+abbrev pub command_words : List (List ℕ)
+command_words = map word_text commands
 
 -- preconditions of a new right in order; the names of rights stand by bit
 abbrev pub define_checks : List (List ℕ) → List ℕ → List (Bool × Refusal)

@@ -9,8 +9,6 @@ use Rattle.pm_model.specs.declared.words.Word.TheVariants as word
 use Rattle.pm_model.specs.declared.lines.Head.{Head}
 use Rattle.pm_model.specs.declared.lines.BadLine.{BadLine}
 use Rattle.pm_model.specs.declared.lines.BadLine.TheVariants.{TooLong, NotJson, NotRequest, UnknownCommand, BadField}
-use Rattle.pm_model.specs.declared.lines.Field.{Field}
-use Rattle.pm_model.specs.declared.lines.Field.TheVariants as field
 use Rattle.pm_model.specs.declared.replies.Refusal.{Refusal}
 use Rattle.pm_model.specs.declared.replies.Refusal.TheVariants as refusal
 use Rattle.pm_model.specs.declared.replies.Table.{Table}
@@ -21,27 +19,6 @@ use Rattle.pm_model.specs.declared.replies.Reason.{Reason}
 use Rattle.pm_model.specs.declared.replies.Reason.TheVariants.{Class, Prohibition}
 use Rattle.pm_model.specs.declared.replies.Shown.{Shown}
 use Rattle.pm_model.specs.declared.replies.Shown.TheVariants as shown
-
-abbrev pub field_word : Field → Word
-field_word field.Id = word.Id
-field_word field.After = word.After
-field_word field.Proc = word.Proc
-field_word field.Process = word.Process
-field_word field.Session = word.Session
-field_word field.Name = word.Name
-field_word field.Into = word.Into
-field_word field.From = word.From
-field_word field.To = word.To
-field_word field.Ua = word.Ua
-field_word field.At = word.At
-field_word field.User = word.User
-field_word field.Target = word.Target
-field_word field.Right = word.Right
-field_word field.Rights = word.Rights
-field_word field.Inc = word.Inc
-field_word field.Exc = word.Exc
-field_word field.Mode = word.Mode
-field_word field.Subject = word.Subject
 
 abbrev pub table_word : Table → Word
 table_word Elements = word.Elements
@@ -68,7 +45,7 @@ bad_front h TooLong = no_front h word.TooLong
 bad_front h NotJson = no_front h word.NotJson
 bad_front h NotRequest = no_front h word.NotRequest
 bad_front h UnknownCommand = no_front h word.UnknownCommand
-bad_front h (BadField f) = (key_text key.Field, said (field_word f)) ∷ no_front h word.BadField
+bad_front h (BadField k) = (key_text key.Field, texted (key_text k)) ∷ no_front h word.BadField
 
 -- a request that is granted
 abbrev pub ok_front : Head → Word → List (List ℕ × Option Data)

@@ -1,12 +1,16 @@
 //! The types of the policy machine, the traits of the outside, and the definitions that contracts cite.
 #![tactic(auto)]
 
+mod actions;
+mod counting;
 mod elements;
+mod events;
 mod laws;
 mod lines;
 mod lists;
 mod memory;
 mod names;
+mod obligations;
 mod outside;
 mod prohibitions;
 mod reading;
@@ -16,12 +20,15 @@ mod rights;
 mod sessions;
 mod words;
 
+pub use actions::{Act, Action, ActionList, Guard, GuardList, ProcessTerm, Term, TermList};
 pub use elements::{Element, ElementId, Kind};
+pub use events::{Event, EventNames, Pattern};
 pub use laws::containment_is_path;
-pub use lines::{BadLine, Field, Head, LineEvent};
+pub use lines::{BadLine, Head, LineEvent};
 pub use lists::{ClassList, ItemList, NameList, PlaceList};
 pub use memory::Memory;
 pub use names::Name;
+pub use obligations::{Obligation, Place, Response, ResponseError};
 pub use outside::{Failed, Sink, Source};
 pub use prohibitions::{Mode, Prohibition, Subject};
 pub use reading::{Bars, Grants, NameOf, Parents, Reach};
@@ -30,3 +37,6 @@ pub use requests::{Asked, Body, Change, Command, Entry, Request, What};
 pub use rights::{Association, Grant, Grantee, Rights, is_access_right};
 pub use sessions::{Process, Session};
 pub use words::{Key, Word};
+
+#[cfg(test)]
+mod tests;

@@ -1,28 +1,6 @@
 //! What a line is read as before it is a request, and what may be wrong with it.
 
-/// A field of a request's line.
-#[derive(Clone, Copy, Debug, PartialEq, Eq)]
-pub enum Field {
-    Id,
-    After,
-    Proc,
-    Process,
-    Session,
-    Name,
-    Into,
-    From,
-    To,
-    Ua,
-    At,
-    User,
-    Target,
-    Right,
-    Rights,
-    Inc,
-    Exc,
-    Mode,
-    Subject,
-}
+use crate::words::Key;
 
 /// Why a line is no request.
 #[derive(Clone, Copy, Debug, PartialEq, Eq)]
@@ -35,8 +13,8 @@ pub enum BadLine {
     NotRequest,
     /// Its `cmd` is no word of a command.
     UnknownCommand,
-    /// This field is the first that is missing or has another form than its own.
-    BadField(Field),
+    /// The field of this key is the first that is missing or has another form than its own.
+    BadField(Key),
 }
 
 /// What every line of a reply has beside what it says.

@@ -1,9 +1,9 @@
 //! Where the program reads and writes, as traits, with a count of their failures.
 
-ghost use Rattle.std.specs.Prelude.{◌≡◌, ◌≤◌, ◌<◌, ℕ, List, Option, length, OnOk, OnErr, IfOk};
+ghost use Rattle.std.specs.Prelude.{◌≡◌, ◌<◌, ℕ, List, Option, length};
 ghost use Rattle.std.specs.Io.{ReadsAtMost, WritesAtMost};
 ghost use Rattle.std.specs.Io.KnownBytes.{ReadConsumes, WriteAppends};
-ghost use Rattle.pm_model.specs.Causes.{HasCause, TakesNothingByFault};
+ghost use Rattle.pm_model.specs.Causes.{HasCause, HasWriteCause, ends_after};
 
 /// The object that was asked has failed.
 #[derive(Clone, Copy, Debug, PartialEq, Eq)]
@@ -17,13 +17,18 @@ pub trait Source {
     /// How often it has failed. The count never falls, and stands still at 2^64 - 1.
     ghost faults: { Self → ℕ };
 
+    /// How often a read has answered that no bytes are left. The count never falls, and stands still
+    /// at 2^64 - 1.
+    ghost ends: { Self → ℕ };
+
     /// Reads some bytes to the front of the piece, and says how many. 0 bytes say that none are left.
-    /// Failed comes only where the count of faults rose in this call; nothing was read then.
+    /// Failed comes exactly where the count of faults rose in this call; nothing was read then.
     fn read(&mut self, piece: &mut [u8]) -> Result<usize, Failed>
         requires { 0 < length piece.old }
         ensures bound { ReadsAtMost result piece.new }
         ensures bytes { ReadConsumes (left self.old) (left self.new) result piece.new }
-        ensures cause { HasCause (faults self.old) (faults self.new) result };
+        ensures cause { HasCause (faults self.old) (faults self.new) result }
+        ensures end { ends self.new ≡ ends_after (ends self.old) result };
 }
 
 /// Where bytes go.
@@ -34,12 +39,11 @@ pub trait Sink {
     /// How often it has failed. The count never falls, and stands still at 2^64 - 1.
     ghost faults: { Self → ℕ };
 
-    /// Takes some of the first bytes of the piece, and says how many. It takes none of a piece that
-    /// isn't empty only where the count of faults rose in this call. Failed comes only where the
-    /// count rose in this call; nothing was taken then.
+    /// Takes some of the first bytes of the piece, and says how many. The count of faults rises in
+    /// this call exactly where it fails, or takes none of a piece that isn't empty; nothing was taken
+    /// then.
     fn write(&mut self, piece: &[u8]) -> Result<usize, Failed>
         ensures bound { WritesAtMost result piece.now }
         ensures bytes { WriteAppends (taken self.old) (taken self.new) result piece.now }
-        ensures cause { HasCause (faults self.old) (faults self.new) result }
-        ensures nothing { TakesNothingByFault (faults self.old) (faults self.new) result piece.now };
+        ensures cause { HasWriteCause (faults self.old) (faults self.new) result piece.now };
 }

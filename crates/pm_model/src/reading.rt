@@ -51,11 +51,11 @@ pub trait Grants {
     ghost grantees: { Self → List Grantee };
 
     /// How many user attributes have associations.
-    fn len(&self) -> usize
+    fn grantee_count(&self) -> usize
         ensures { result ≡ length (grantees self.now) };
 
-    /// The user attribute at a place below the number, with its associations.
-    fn at(&self, i: usize) -> &Grantee
+    /// The user attribute at a place below the count, with its associations.
+    fn grantee(&self, i: usize) -> &Grantee
         requires { i < length (grantees self.now) }
         ensures { slice_get (grantees self.now) i ≡ Some result.now };
 }

@@ -1,0 +1,48 @@
+//! Events, and the patterns that say which of them an obligation waits for.
+
+ghost use Rattle.std.specs.Prelude.{◌≡◌};
+
+use crate::elements::ElementId;
+use crate::names::Name;
+
+/// What a granted access or an accepted command raises: the user who acted, by which process, what was done
+/// (the name of the access right or the word of the command), and the element that it was done to. Source: the
+/// standard's events.
+#[derive(Drop)]
+pub struct Event {
+    pub user: ElementId,
+    pub process: u32,
+    pub operation: Name,
+    pub target: ElementId,
+}
+
+/// Which events an obligation waits for: those of an operation, by the user, or someone in the user attribute,
+/// where one is given, and on the target, or something in it, where one is given. Source: the standard's event
+/// patterns; that they have these three parts is the project's own.
+#[derive(Drop)]
+pub struct Pattern {
+    pub on: Name,
+    pub user: Option<ElementId>,
+    pub target: Option<ElementId>,
+}
+
+impl Pattern {
+    /// The same pattern once more.
+    pub fn copy(&self) -> Pattern
+        ensures { result ≡ self.now }
+    {
+        Pattern {
+            on: self.on,
+            user: self.user,
+            target: self.target,
+        }
+    }
+}
+
+/// What an event's user and target were called before the request that raised it, and its process.
+#[derive(Drop)]
+pub struct EventNames {
+    pub user: Name,
+    pub target: Name,
+    pub process: u32,
+}
