@@ -7,7 +7,7 @@ use Rattle.pm_model.specs.declared.elements.Kind.{Kind}
 use Rattle.pm_model.specs.declared.elements.Kind.TheVariants.{User, Ua, Object, Oa, Pc}
 use Rattle.pm_model.specs.declared.prohibitions.Prohibition.{Prohibition}
 use Rattle.pm_model.specs.declared.requests.Change.{Change}
-use Rattle.pm_model.specs.declared.requests.Change.TheVariants.{Create, Delete, Assign, Deassign, Associate, Dissociate, OpenSession, CloseSession, StartProcess, EndProcess, Prohibit, Lift, DefineRight}
+use Rattle.pm_model.specs.declared.requests.Change.TheVariants as change
 use Rattle.pm_model.specs.declared.replies.Reason.{Reason}
 use Rattle.pm_model.specs.declared.replies.Refusal.{Refusal}
 use Rattle.pm_model.specs.Formed.{IsWellFormed}
@@ -68,7 +68,7 @@ module _ (G : Graph) (u : ℕ) (q : Option ℕ) where
 
   -- where the subject is allowed, a prohibition asks for its two sets
   sets-left : (p : Prohibition) (e : ℕ) → e ≡ subject_element G p.subject → None ≡ first_denied G u q ((to_prohibit, e) ∷ []) →
-      first_denied G u q (required G (Prohibit p)) ≡ or_else (first_denied G u q (on_places p.inc)) (first_denied G u q (on_places p.exc))
+      first_denied G u q (required G (change.Prohibit p)) ≡ or_else (first_denied G u q (on_places p.inc)) (first_denied G u q (on_places p.exc))
   sets-left p e same none =
       let s = subject_element G p.subject in
       let allowed : None ≡ first_denied G u q ((to_prohibit, s) ∷ []) = subst (λ n. None ≡ first_denied G u q ((to_prohibit, n) ∷ [])) same none in
@@ -76,12 +76,12 @@ module _ (G : Graph) (u : ℕ) (q : Option ℕ) where
 
   pub inc-denied : (p : Prohibition) (e : ℕ) (why : Refusal) → e ≡ subject_element G p.subject →
       None ≡ first_denied G u q ((to_prohibit, e) ∷ []) → Some why ≡ first_denied G u q (on_places p.inc) →
-      Some why ≡ first_denied G u q (required G (Prohibit p))
+      Some why ≡ first_denied G u q (required G (change.Prohibit p))
   inc-denied p e why same none is = sym (sets-left p e same none ∙ ap (λ o. or_else o (first_denied G u q (on_places p.exc))) (sym is))
 
   pub exc-left : (p : Prohibition) (e : ℕ) (last : Option Refusal) → e ≡ subject_element G p.subject →
       None ≡ first_denied G u q ((to_prohibit, e) ∷ []) → None ≡ first_denied G u q (on_places p.inc) →
-      last ≡ first_denied G u q (on_places p.exc) → last ≡ first_denied G u q (required G (Prohibit p))
+      last ≡ first_denied G u q (on_places p.exc) → last ≡ first_denied G u q (required G (change.Prohibit p))
   exc-left p e last same none inc is =
       is ∙ sym (sets-left p e same none ∙ ap (λ o. or_else o (first_denied G u q (on_places p.exc))) (sym inc))
 
@@ -103,7 +103,7 @@ root-lift G q None = refl
 root-lift G q (Some p) = refl
 
 root-create : (G : Graph) (q : Option ℕ) (id : ℕ) (kind : Kind) (name : List ℕ) (into : Option ℕ) →
-    first_denied G root q (required G (Create id kind name into)) ≡ None
+    first_denied G root q (required G (change.Create id kind name into)) ≡ None
 root-create G q id User name None = refl
 root-create G q id Ua name None = refl
 root-create G q id Object name None = refl
@@ -116,19 +116,19 @@ root-create G q id Oa name (Some into) = refl
 root-create G q id Pc name (Some into) = refl
 
 root-allowed : (G : Graph) (q : Option ℕ) (c : Change) → first_denied G root q (required G c) ≡ None
-root-allowed G q (Create id kind name into) = root-create G q id kind name into
-root-allowed G q (Delete id) = refl
-root-allowed G q (Assign x y) = refl
-root-allowed G q (Deassign x y) = refl
-root-allowed G q (Associate u r t) = refl
-root-allowed G q (Dissociate u t) = refl
-root-allowed G q (Prohibit p) = root-places G q (p.inc ++ p.exc)
-root-allowed G q (Lift i) = root-lift G q (slice_get G.prohibitions i)
-root-allowed G q (DefineRight name) = refl
-root-allowed G q (OpenSession u) = refl
-root-allowed G q (CloseSession n) = refl
-root-allowed G q (StartProcess n) = refl
-root-allowed G q (EndProcess n) = refl
+root-allowed G q (change.Create id kind name into) = root-create G q id kind name into
+root-allowed G q (change.Delete id) = refl
+root-allowed G q (change.Assign x y) = refl
+root-allowed G q (change.Deassign x y) = refl
+root-allowed G q (change.Associate u r t) = refl
+root-allowed G q (change.Dissociate u t) = refl
+root-allowed G q (change.Prohibit p) = root-places G q (p.inc ++ p.exc)
+root-allowed G q (change.Lift i) = root-lift G q (slice_get G.prohibitions i)
+root-allowed G q (change.DefineRight name) = refl
+root-allowed G q (change.OpenSession u) = refl
+root-allowed G q (change.CloseSession n) = refl
+root-allowed G q (change.StartProcess n) = refl
+root-allowed G q (change.EndProcess n) = refl
 
 pub root_none : (G : Graph) (u : ℕ) (q : Option ℕ) (c : Change) → u ≡ root → None ≡ first_denied G u q (required G c)
 root_none G u q c is = rw is (sym (root-allowed G q c))

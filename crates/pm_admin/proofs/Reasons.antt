@@ -1,32 +1,33 @@
 -- A verdict tells the reason of a denial.
-use Rattle.std.proofs.Common.{◌≡◌, ℕ, Bool, List, Option, None, Some, refl}
+use Rattle.std.proofs.Common.{◌≡◌, ℕ, Bool, List, Option, None, Some, refl, inl, inr}
+use Rattle.std.proofs.lemmas.Option.{slice_get_within}
 use Rattle.pm_model.specs.Authority.{reason_of}
-use Rattle.pm_model.specs.Decision.{forbids, forbidding, first_applying}
+use Rattle.pm_model.specs.Decision.{lacking, forbidding}
 use Rattle.pm_model.specs.declared.prohibitions.Prohibition.{Prohibition}
-use Rattle.pm_decide.specs.Verdict.{verdict}
-use Rattle.pm_decide.proofs.Places.{found-here, found-within, found-none}
-use Rattle.pm_admin.specs.Verdicts.{called, reason_by, IsPlaced}
+use Rattle.pm_model.specs.declared.rights.Association.{Association}
+use Rattle.pm_decide.specs.Verdict.{decision}
+use Rattle.pm_decide.specs.Meaning.{Says}
+use Rattle.pm_decide.specs.declared.verdict.Verdict.{Verdict}
+use Rattle.pm_decide.specs.declared.verdict.Verdict.TheVariants.{Granted, NoClass, Prohibited}
+use Rattle.pm_decide.proofs.Meaning.{classes-asked, prohibitions-asked, decision-said}
+use Rattle.pm_admin.specs.Verdicts.{reason_by, IsPlaced}
 
-module _ (below : ℕ → ℕ → Bool) (ps : List Prohibition) (u : ℕ) (q : Option ℕ) (r e : ℕ) where
-  abbrev place : Option ℕ
-  place = first_applying below ps u q r e
-
-  reason-placed : (o : Option ℕ) → place ≡ o → reason_by ps (verdict None o) ≡ reason_of None (forbidding below ps u q r e)
-  reason-placed None is = rw (found-none (forbids below u q r e) ps is) refl
-  reason-placed (Some i) is = rw (found-here (forbids below u q r e) ps i is) (by_found (forbidding below ps u q r e)) where
-    by_found : (o : Option Prohibition) → called o ≡ reason_of None o
-    by_found None = refl
-    by_found (Some p) = refl
-
+module _ (below : ℕ → ℕ → Bool) (associations : List Association) (ps : List Prohibition) (classes : List ℕ) (u : ℕ) (q : Option ℕ) (r e : ℕ) where
   -- the reason by the verdict is that of the definition
-  pub reason-is : (class : Option ℕ) → reason_by ps (verdict class place) ≡ reason_of class (forbidding below ps u q r e)
-  reason-is (Some pc) = refl
-  reason-is None = reason-placed place refl
+  pub reason-is : reason_by ps (decision below associations ps classes u q r e)
+      ≡ reason_of (lacking below associations classes u r e) (forbidding below ps u q r e)
+  reason-is = elim (classes-asked below associations u r e classes) [
+    | inl met ↦ elim (prohibitions-asked below u q r e ps) [
+      | inl free ↦ rw (met.0, free.0, free.1) refl
+      | inr bar ↦ rw (met.0, bar.2, bar.3, bar.4.there) refl
+    ]
+    | inr lack ↦ rw (lack.2) refl
+  ]
 
   -- a prohibition that is named is one of the list
-  pub verdict-placed : (class : Option ℕ) → IsPlaced ps (verdict class place)
-  verdict-placed (Some pc) = tt
-  verdict-placed None = of place refl where
-    of : (o : Option ℕ) → place ≡ o → IsPlaced ps (verdict None o)
-    of None is = tt
-    of (Some i) is = found-within (forbids below u q r e) ps i is
+  pub verdict-placed : IsPlaced ps (decision below associations ps classes u q r e)
+  verdict-placed = of (decision below associations ps classes u q r e) (decision-said below associations ps classes u q r e) where
+    of : (v : Verdict) → Says below associations ps classes u q r e v → IsPlaced ps v
+    of Granted said = tt
+    of (NoClass pc) said = tt
+    of (Prohibited i) said = slice_get_within ps i said.1 said.2.there

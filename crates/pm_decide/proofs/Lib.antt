@@ -1,6 +1,7 @@
+pub mod Firsts
 pub mod Groups
+pub mod Meaning
 pub mod Orders
-pub mod Places
 pub mod Privileges
 pub mod RightSets
 pub mod Walks

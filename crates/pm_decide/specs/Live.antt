@@ -37,3 +37,19 @@ pub record NamesLive (relation : Relation) (p : Prohibition) : Type 0 where
 -- all that each prohibition names
 abbrev pub BarsLive : Relation → List Prohibition → Type 0
 BarsLive relation ps = All (NamesLive relation) ps
+
+-- ---- questions
+
+-- a question about one class: the user, the element, the class, and both ends of each association
+pub record IsAskedIn (relation : Relation) (gs : List Grantee) (u e pc : ℕ) : Type 0 where
+  pub user : IsLive relation u
+  pub element : IsLive relation e
+  pub class : IsLive relation pc
+  pub grants : EndsLive relation gs
+
+-- the same about a list of classes
+pub record IsAsked (relation : Relation) (gs : List Grantee) (pcs : List ℕ) (u e : ℕ) : Type 0 where
+  pub user : IsLive relation u
+  pub element : IsLive relation e
+  pub classes : AllLive relation pcs
+  pub grants : EndsLive relation gs

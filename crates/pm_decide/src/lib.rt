@@ -5,16 +5,18 @@
 ghost use Rattle.std.specs.Prelude.{◌≡◌, ◌<◌};
 ghost use Rattle.std.specs.List.{list_any};
 ghost use Rattle.pm_model.specs.Decision.{is_met, lacking, privilege, of_grantee, associations_of};
-ghost use Rattle.pm_decide.specs.Live.{IsLive, AllLive, GranteeLive, EndsLive, BarsLive};
+ghost use Rattle.pm_decide.specs.Live.{IsLive, IsAsked, IsAskedIn, GranteeLive, BarsLive};
 ghost use Rattle.pm_decide.specs.Gives.{gives};
 ghost use Rattle.pm_decide.specs.Verdict.{decision};
 
+mod laws;
 mod prohibitions;
 mod rights;
 #[cfg(test)]
 mod tests;
 mod verdict;
 
+pub use laws::decision_said;
 use pm_model::{Bars, ClassList, ElementId, Grant, Grantee, Grants, Reach};
 pub use prohibitions::first_applying;
 pub use rights::rights_of;
@@ -93,15 +95,12 @@ fn is_met<R: Reach, G: Grants>(
     class: ElementId,
 ) -> bool
     requires right { right < 64 }
-    requires user { IsLive (R.relation reach.old) user }
-    requires element { IsLive (R.relation reach.old) element }
-    requires class { IsLive (R.relation reach.old) class }
-    requires grants { EndsLive (R.relation reach.old) (G.grantees grants.now) }
+    requires asked { IsAskedIn (R.relation reach.old) (G.grantees grants.now) user element class }
     ensures answer { result ≡ is_met (R.relation reach.old).below (associations_of (G.grantees grants.now)) user right element class }
     ensures same { R.relation reach.new ≡ R.relation reach.old }
 {
-    for i in 0..grants.len() {
-        if is_met_by(reach, grants.at(i), user, right, element, class) {
+    for i in 0..grants.grantee_count() {
+        if is_met_by(reach, grants.grantee(i), user, right, element, class) {
             return true;
         }
     }
@@ -118,10 +117,7 @@ fn lacking<R: Reach, G: Grants>(
     element: ElementId,
 ) -> Option<ElementId>
     requires right { right < 64 }
-    requires user { IsLive (R.relation reach.old) user }
-    requires element { IsLive (R.relation reach.old) element }
-    requires classes { AllLive (R.relation reach.old) classes.now }
-    requires grants { EndsLive (R.relation reach.old) (G.grantees grants.now) }
+    requires asked { IsAsked (R.relation reach.old) (G.grantees grants.now) classes.now user element }
     ensures answer { result ≡ lacking (R.relation reach.old).below (associations_of (G.grantees grants.now)) classes.now user right element }
     ensures same { R.relation reach.new ≡ R.relation reach.old }
 {
@@ -152,10 +148,7 @@ pub fn privilege<R: Reach, G: Grants>(
     element: ElementId,
 ) -> bool
     requires right { right < 64 }
-    requires user { IsLive (R.relation reach.old) user }
-    requires element { IsLive (R.relation reach.old) element }
-    requires classes { AllLive (R.relation reach.old) classes.now }
-    requires grants { EndsLive (R.relation reach.old) (G.grantees grants.now) }
+    requires asked { IsAsked (R.relation reach.old) (G.grantees grants.now) classes.now user element }
     ensures answer { result ≡ privilege (R.relation reach.old).below (associations_of (G.grantees grants.now)) classes.now user right element }
     ensures same { R.relation reach.new ≡ R.relation reach.old }
 {
@@ -179,10 +172,7 @@ pub fn decide<R: Reach, G: Grants, B: Bars>(
     element: ElementId,
 ) -> Verdict
     requires right { right < 64 }
-    requires user { IsLive (R.relation reach.old) user }
-    requires element { IsLive (R.relation reach.old) element }
-    requires classes { AllLive (R.relation reach.old) classes.now }
-    requires grants { EndsLive (R.relation reach.old) (G.grantees grants.now) }
+    requires asked { IsAsked (R.relation reach.old) (G.grantees grants.now) classes.now user element }
     requires bars { BarsLive (R.relation reach.old) (B.prohibitions bars.now) }
     ensures answer { result ≡ decision (R.relation reach.old).below (associations_of (G.grantees grants.now)) (B.prohibitions bars.now) classes.now user process right element }
     ensures same { R.relation reach.new ≡ R.relation reach.old }

@@ -5,7 +5,7 @@ ghost use Rattle.std.specs.List.{list_any};
 ghost use Rattle.pm_model.specs.Decision.{is_met, privilege, forbids, of_grantee, associations_of, rights_on};
 ghost use Rattle.pm_model.specs.RightSet.{has_right};
 ghost use Rattle.pm_decide.specs.Gives.{gives};
-ghost use Rattle.pm_decide.specs.Live.{IsLive, AllLive, GranteeLive, EndsLive, NamesLive, BarsLive};
+ghost use Rattle.pm_decide.specs.Live.{IsLive, IsAsked, IsAskedIn, GranteeLive, NamesLive, BarsLive};
 ghost use Rattle.pm_decide.specs.Sets.{IsSetOf};
 
 use crate::prohibitions::{applies, in_range};
@@ -101,16 +101,13 @@ fn rights_met<R: Reach, G: Grants>(
     element: ElementId,
     class: ElementId,
 ) -> Rights
-    requires user { IsLive (R.relation reach.old) user }
-    requires element { IsLive (R.relation reach.old) element }
-    requires class { IsLive (R.relation reach.old) class }
-    requires grants { EndsLive (R.relation reach.old) (G.grantees grants.now) }
+    requires asked { IsAskedIn (R.relation reach.old) (G.grantees grants.now) user element class }
     ensures answer { IsSetOf (λ r. is_met (R.relation reach.old).below (associations_of (G.grantees grants.now)) user r element class) result }
     ensures same { R.relation reach.new ≡ R.relation reach.old }
 {
     let mut rights = NO_RIGHTS;
-    for i in 0..grants.len() {
-        let more = rights_by(reach, grants.at(i), user, element, class);
+    for i in 0..grants.grantee_count() {
+        let more = rights_by(reach, grants.grantee(i), user, element, class);
         rights = rights.union(more);
     }
     rights
@@ -124,10 +121,7 @@ fn rights_in<R: Reach, G: Grants>(
     element: ElementId,
     class: ElementId,
 ) -> Rights
-    requires user { IsLive (R.relation reach.old) user }
-    requires element { IsLive (R.relation reach.old) element }
-    requires class { IsLive (R.relation reach.old) class }
-    requires grants { EndsLive (R.relation reach.old) (G.grantees grants.now) }
+    requires asked { IsAskedIn (R.relation reach.old) (G.grantees grants.now) user element class }
     ensures answer { IsSetOf (λ r. not ((R.relation reach.old).below element class) || is_met (R.relation reach.old).below (associations_of (G.grantees grants.now)) user r element class) result }
     ensures same { R.relation reach.new ≡ R.relation reach.old }
 {
@@ -145,10 +139,7 @@ fn privileges_of<R: Reach, G: Grants>(
     user: ElementId,
     element: ElementId,
 ) -> Rights
-    requires user { IsLive (R.relation reach.old) user }
-    requires element { IsLive (R.relation reach.old) element }
-    requires classes { AllLive (R.relation reach.old) classes.now }
-    requires grants { EndsLive (R.relation reach.old) (G.grantees grants.now) }
+    requires asked { IsAsked (R.relation reach.old) (G.grantees grants.now) classes.now user element }
     ensures answer { IsSetOf (λ r. privilege (R.relation reach.old).below (associations_of (G.grantees grants.now)) classes.now user r element) result }
     ensures same { R.relation reach.new ≡ R.relation reach.old }
 {
@@ -221,10 +212,7 @@ pub fn rights_of<R: Reach, G: Grants, B: Bars>(
     user: ElementId,
     element: ElementId,
 ) -> Rights
-    requires user { IsLive (R.relation reach.old) user }
-    requires element { IsLive (R.relation reach.old) element }
-    requires classes { AllLive (R.relation reach.old) classes.now }
-    requires grants { EndsLive (R.relation reach.old) (G.grantees grants.now) }
+    requires asked { IsAsked (R.relation reach.old) (G.grantees grants.now) classes.now user element }
     requires bars { BarsLive (R.relation reach.old) (B.prohibitions bars.now) }
     ensures answer { result ≡ rights_on (R.relation reach.old).below (associations_of (G.grantees grants.now)) (B.prohibitions bars.now) classes.now user element }
     ensures same { R.relation reach.new ≡ R.relation reach.old }

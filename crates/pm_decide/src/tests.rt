@@ -245,11 +245,11 @@ struct Associations(ItemList<Grantee>);
 impl Grants for Associations {
     ghost grantees = { λ s. s.0 };
 
-    fn len(&self) -> usize {
+    fn grantee_count(&self) -> usize {
         self.0.len()
     }
 
-    fn at(&self, i: usize) -> &Grantee {
+    fn grantee(&self, i: usize) -> &Grantee {
         self.0.at(i)
     }
 }

@@ -1,6 +1,7 @@
 -- An answer that accepts makes one change, and raises the version by one.
 use Rattle.std.proofs.Common.{◌≡◌, ◌+◌, ◌<◌, ◌&&◌, nat_le, Bool, false, Option, Some, None, Result, Ok, Err, is_some, refl, subst}
 use Rattle.std.proofs.lemmas.Bool.{cond_both, leb-false}
+use Rattle.std.proofs.lemmas.Option.{same_Some}
 use Rattle.pm_model.specs.Results.{and_then}
 use Rattle.pm_model.specs.State.{State, Graph}
 use Rattle.pm_model.specs.Effect.{effect}
@@ -31,13 +32,10 @@ IsStepped S a = (T : State) → a.next ≡ Some T → IsNext S T
 told-stepped : (S : State) (a : Answer) → a.next ≡ None → IsStepped S a
 told-stepped S a none T some = absurd (cc)
 
-some-is : (S T : State) → Some S ≡ Some T → S ≡ T
-some-is S T same = cc
-
 made-stepped : (S : State) (c : Change) (shown : Shown) (r : Result Graph Refusal) → effect S.graph c ≡ r → IsStepped S (made S.version shown r)
 made-stepped S c shown (Ok H) is = λ T some.
     let next : State = record { graph = H; version = S.version + 1 } in
-    subst (IsNext S) (some-is next T some) (record { change = c; made = is; counted = refl })
+    subst (IsNext S) (same_Some next T some) (record { change = c; made = is; counted = refl })
 made-stepped S c shown (Err why) is = told-stepped S (told (Refused why)) refl
 
 entered-stepped : (S : State) (r : Result Change Refusal) → IsStepped S (entered S r)

@@ -11,7 +11,7 @@ use Rattle.pm_model.specs.declared.sessions.Process.{Process}
 use Rattle.pm_model.specs.declared.prohibitions.Prohibition.{Prohibition}
 use Rattle.pm_laws.specs.Meaning.{ActsFor, ActsForOne, IsGone}
 use Rattle.pm_laws.proofs.Items.{each-at, filter-contains, find-is}
-use Rattle.pm_laws.proofs.Live.{user-found, user-live}
+use Rattle.pm_laws.proofs.Live.{user-found, user-is}
 use Rattle.pm_laws.proofs.Procs.{rise-found, session-is, process-is}
 use Rattle.pm_laws.proofs.Prohibitions.{processes-of}
 
@@ -51,7 +51,7 @@ process_acts_for_one_user G p f c =
       is,
       record {
         acts = (user_acted_for G p.number u f).0 is;
-        live = user-live G p.number u f is;
+        user = user-is G p.number u f is;
         only = λ v acts. let also = (user_acted_for G p.number v f).1 acts in cc;
       },
     )

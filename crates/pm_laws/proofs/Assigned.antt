@@ -5,7 +5,7 @@ use Rattle.std.proofs.lemmas.List.Elements.{Contains-append_left, Contains-push}
 use Rattle.std.proofs.lemmas.Bool.{cases_Bool, false_from_ne_true}
 use Rattle.pm_model.specs.State.{element, element_at}
 use Rattle.pm_model.specs.Containment.{contained}
-use Rattle.pm_model.specs.Effect.{placed, is_pair, is_from, may_assign, may_create}
+use Rattle.pm_model.specs.Effect.{placed, is_pair, is_from, may_assign, may_create, max_assignments}
 use Rattle.pm_model.specs.Resolve.{unused}
 use Rattle.pm_model.specs.Formed.{Each, IsLive, JoinsKinds, IsInClass, AreElements, AreAssigned}
 use Rattle.pm_model.specs.declared.elements.Kind.TheVariants.{Pc}
@@ -30,7 +30,7 @@ within-without pairs x y a b c = elim (cases_Bool (is_pair x y (a, b))) [
 ]
 
 pub assigned-pushed : (es : List Element) (pairs : List (ℕ × ℕ)) (x y : ℕ) → AreAssigned es pairs → JoinsKinds es (x, y) →
-    list_any (is_pair x y) pairs ≡ false → contained pairs y x ≡ false → length pairs < 131072 →
+    list_any (is_pair x y) pairs ≡ false → contained pairs y x ≡ false → length pairs < max_assignments →
     AreAssigned es (pairs ++ (x, y) ∷ [])
 assigned-pushed es pairs x y h fits free apart room = let l = length-append pairs ((x, y) ∷ []) in record {
   kinds = each-push (JoinsKinds es) pairs (x, y) h.kinds fits;
@@ -103,7 +103,7 @@ new-empty es pairs x y e u kinds live up = live-apart es x e.rising (contained-l
 
 -- a new element in a container
 pub assigned-under : (es : List Element) (x : Element) (pairs : List (ℕ × ℕ)) (c : ℕ) → AreElements es → x.number ≡ unused es →
-    AreAssigned es pairs → may_create es x.kind (Some c) ≡ true → length pairs < 131072 →
+    AreAssigned es pairs → may_create es x.kind (Some c) ≡ true → length pairs < max_assignments →
     AreAssigned (placed x es) (pairs ++ (x.number, c) ∷ [])
 assigned-under es x pairs c e u h may room = let l = length-append pairs ((x.number, c) ∷ []) in record {
   kinds = each-push (JoinsKinds (placed x es)) pairs (x.number, c)

@@ -1,7 +1,7 @@
 -- The associations, where one comes or goes and where an element comes: one lemma for each change of the lists.
 use Rattle.std.proofs.Common.{◌≡◌, ◌<◌, ℕ, List, [], ◌∷◌, ◌++◌, length, Bool, false, arith, filter}
 use Rattle.std.specs.List.{list_any}
-use Rattle.pm_model.specs.Effect.{placed, joins, joined, may_associate}
+use Rattle.pm_model.specs.Effect.{placed, joins, joined, may_associate, max_associations}
 use Rattle.pm_model.specs.Resolve.{unused}
 use Rattle.pm_model.specs.Formed.{AreElements, AreAssociations, JoinsAttributes, AreNamed}
 use Rattle.pm_model.specs.declared.elements.Element.{Element}
@@ -15,7 +15,7 @@ use Rattle.pm_laws.proofs.Joined.{each-joined, once-joined, ordered-joined, once
 -- one more
 pub associations-joined : (es : List Element) (rights : List (List ℕ)) (associations : List Association) (a : Association) →
     AreAssociations es rights associations → JoinsAttributes es a → AreNamed rights a.rights →
-    list_any (joins a.ua a.at) associations ≡ false → length associations < 65536 → AreAssociations es rights (joined a associations)
+    list_any (joins a.ua a.at) associations ≡ false → length associations < max_associations → AreAssociations es rights (joined a associations)
 associations-joined es rights associations a h fits named free room = let l = length-joined a associations in record {
   kinds = each-joined a (JoinsAttributes es) associations h.kinds fits;
   once = once-joined a associations h.once free;

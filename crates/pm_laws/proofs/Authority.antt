@@ -16,7 +16,7 @@ use Rattle.pm_model.specs.declared.prohibitions.Subject.{Subject}
 use Rattle.pm_model.specs.declared.prohibitions.Subject.TheVariants as subject
 use Rattle.pm_model.specs.declared.requests.Command.{Command}
 use Rattle.pm_model.specs.declared.requests.Change.{Change}
-use Rattle.pm_model.specs.declared.requests.Change.TheVariants.{Create, Delete, Assign, Deassign, Associate, Dissociate, OpenSession, CloseSession, StartProcess, EndProcess, Prohibit, Lift, DefineRight}
+use Rattle.pm_model.specs.declared.requests.Change.TheVariants as change
 use Rattle.pm_model.specs.declared.replies.Reason.{Reason}
 use Rattle.pm_model.specs.declared.replies.Refusal.{Refusal}
 use Rattle.pm_laws.proofs.Items.{each-from, each-to, each-at, each-map, each-append, get-contains}
@@ -41,29 +41,29 @@ subject-live G (subject.Process n) f h = of (user_of G.procs n) refl where
   of None is = pm-live G f
 
 pub required-live : (G : Graph) (d : Change) → IsWellFormed G → IsNamed G d → Each (λ (c : ℕ × ℕ). IsLive G.elements c.1) (required G d)
-required-live G (Create id kind name None) f n = (pm-live G f, tt)
-required-live G (Create id kind name (Some into)) f n = (n.1, tt)
-required-live G (Delete id) f n = (n, tt)
-required-live G (Assign x y) f n = (n.0, (n.1, tt))
-required-live G (Deassign x y) f n = (n.0, (n.1, tt))
-required-live G (Associate u r t) f n = (n.0, (n.1, tt))
-required-live G (Dissociate u t) f n = (n.0, (n.1, tt))
-required-live G (OpenSession u) f n = tt
-required-live G (CloseSession m) f n = tt
-required-live G (StartProcess m) f n = tt
-required-live G (EndProcess m) f n = tt
-required-live G (Prohibit p) f n = (
+required-live G (change.Create id kind name None) f n = (pm-live G f, tt)
+required-live G (change.Create id kind name (Some into)) f n = (n.1, tt)
+required-live G (change.Delete id) f n = (n, tt)
+required-live G (change.Assign x y) f n = (n.0, (n.1, tt))
+required-live G (change.Deassign x y) f n = (n.0, (n.1, tt))
+required-live G (change.Associate u r t) f n = (n.0, (n.1, tt))
+required-live G (change.Dissociate u t) f n = (n.0, (n.1, tt))
+required-live G (change.OpenSession u) f n = tt
+required-live G (change.CloseSession m) f n = tt
+required-live G (change.StartProcess m) f n = tt
+required-live G (change.EndProcess m) f n = tt
+required-live G (change.Prohibit p) f n = (
   subject-live G p.subject f n.0,
   each-map (λ (c : ℕ × ℕ). IsLive G.elements c.1) (λ a. (to_prohibit_to, a)) (p.inc ++ p.exc)
       (each-append (IsLive G.elements) p.inc p.exc n.1 n.2),
 )
-required-live G (Lift i) f n = of (slice_get G.prohibitions i) refl where
+required-live G (change.Lift i) f n = of (slice_get G.prohibitions i) refl where
   of : (o : Option Prohibition) → slice_get G.prohibitions i ≡ o → Each (λ (c : ℕ × ℕ). IsLive G.elements c.1) (prohibited_at G o)
   of (Some p) at =
       let is = each-at (IsProhibition G.elements G.procs G.rights) G.prohibitions p f.prohibitions.each (get-contains G.prohibitions i p at) in
       (subject-live G p.subject f is.subject, tt)
   of None at = tt
-required-live G (DefineRight name) f n = (pm-live G f, tt)
+required-live G (change.DefineRight name) f n = (pm-live G f, tt)
 
 -- ---- the rights that are asked for are administrative
 
@@ -75,27 +75,27 @@ create-administrative Object = refl
 create-administrative Pc = refl
 
 pub required-administrative : (G : Graph) (d : Change) → Each (λ (c : ℕ × ℕ). is_administrative c.0 ≡ true) (required G d)
-required-administrative G (Create id kind name None) = (create-administrative kind, tt)
-required-administrative G (Create id kind name (Some into)) = (create-administrative kind, tt)
-required-administrative G (Delete id) = (refl, tt)
-required-administrative G (Assign x y) = (refl, (refl, tt))
-required-administrative G (Deassign x y) = (refl, (refl, tt))
-required-administrative G (Associate u r t) = (refl, (refl, tt))
-required-administrative G (Dissociate u t) = (refl, (refl, tt))
-required-administrative G (OpenSession u) = tt
-required-administrative G (CloseSession m) = tt
-required-administrative G (StartProcess m) = tt
-required-administrative G (EndProcess m) = tt
-required-administrative G (Prohibit p) = (
+required-administrative G (change.Create id kind name None) = (create-administrative kind, tt)
+required-administrative G (change.Create id kind name (Some into)) = (create-administrative kind, tt)
+required-administrative G (change.Delete id) = (refl, tt)
+required-administrative G (change.Assign x y) = (refl, (refl, tt))
+required-administrative G (change.Deassign x y) = (refl, (refl, tt))
+required-administrative G (change.Associate u r t) = (refl, (refl, tt))
+required-administrative G (change.Dissociate u t) = (refl, (refl, tt))
+required-administrative G (change.OpenSession u) = tt
+required-administrative G (change.CloseSession m) = tt
+required-administrative G (change.StartProcess m) = tt
+required-administrative G (change.EndProcess m) = tt
+required-administrative G (change.Prohibit p) = (
   refl,
   each-map (λ (c : ℕ × ℕ). is_administrative c.0 ≡ true) (λ a. (to_prohibit_to, a)) (p.inc ++ p.exc)
       (each-from (λ a. is_administrative to_prohibit_to ≡ true) (p.inc ++ p.exc) (λ a c. refl)),
 )
-required-administrative G (Lift i) = of (slice_get G.prohibitions i) where
+required-administrative G (change.Lift i) = of (slice_get G.prohibitions i) where
   of : (o : Option Prohibition) → Each (λ (c : ℕ × ℕ). is_administrative c.0 ≡ true) (prohibited_at G o)
   of (Some p) = (refl, tt)
   of None = tt
-required-administrative G (DefineRight name) = (refl, tt)
+required-administrative G (change.DefineRight name) = (refl, tt)
 
 administrative-below : (r : ℕ) → is_administrative r ≡ true → r < 17
 administrative-below r h = let p = and_parts (nat_le 2 r) (nat_le r 16) h in let below = leb-true r 16 p.1 in omega (arith, below)

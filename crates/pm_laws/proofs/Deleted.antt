@@ -7,7 +7,7 @@ use Rattle.pm_model.specs.Containment.{Leads, IsContained}
 use Rattle.pm_model.specs.Sessions.{Procs, is_session_of}
 use Rattle.pm_model.specs.Prohibitions.{is_subject, names_element}
 use Rattle.pm_model.specs.Effect.{both, may_assign, may_associate, is_from, is_to, has_child, has_end}
-use Rattle.pm_model.specs.Formed.{Each, AreRising, HaveOwnNames, AreElements, IsLive, JoinsKinds, IsInClass, AreAssigned, JoinsAttributes, AreAssociations, AreProcs, IsSubjectLive, AreProhibitions, Stands, StandsAssigned, HasOpening}
+use Rattle.pm_model.specs.Formed.{Each, AreRising, HaveOwnNames, AreElements, IsLive, IsUser, JoinsKinds, IsInClass, AreAssigned, JoinsAttributes, AreAssociations, AreProcs, IsSubjectLive, AreProhibitions, Stands, StandsAssigned, HasOpening}
 use Rattle.pm_model.specs.declared.elements.Kind.{Kind}
 use Rattle.pm_model.specs.declared.elements.Element.{Element}
 use Rattle.pm_model.specs.declared.rights.Association.{Association}
@@ -18,7 +18,7 @@ use Rattle.pm_model.specs.declared.prohibitions.Subject.TheVariants as subject
 use Rattle.pm_model.proofs.ContainmentLaws.{contained-from_path, path-from_contained}
 use Rattle.pm_laws.proofs.Items.{each-at, each-from, filter-contains, filter-split, contains-filter, length-filter, find-filter, none-at, none-from}
 use Rattle.pm_laws.proofs.Numbers.{found-at, live-found}
-use Rattle.pm_laws.proofs.Ends.{both-live}
+use Rattle.pm_laws.proofs.Ends.{both-live, user-lives}
 use Rattle.pm_laws.proofs.Pairs.{assigned-is, assigned-at, once-filter}
 use Rattle.pm_laws.proofs.Shape.{IsWithin, HasClass, acyclic-within, class-found, class-from}
 use Rattle.pm_laws.proofs.Prohibitions.{prohibitions-to}
@@ -82,6 +82,9 @@ module _ (id : ℕ) where
 
   live-left : (es : List Element) (n : ℕ) → (n ≡ id → ⊥) → IsLive es n → IsLive (left es) n
   live-left es n other live = rw (found-left es n other live) live
+
+  user-left : (es : List Element) (n : ℕ) → (n ≡ id → ⊥) → IsUser es n → IsUser (left es) n
+  user-left es n other user = rw (found-left es n other (user-lives es n user)) user
 
   each-left : (es : List Element) (ns : List ℕ) → list_any (λ n. n == id) ns ≡ false → Each (IsLive es) ns → Each (IsLive (left es)) ns
   each-left es ns none h =
@@ -157,9 +160,9 @@ module _ (id : ℕ) where
   pub procs-left : (es : List Element) (P : Procs) → list_any (is_session_of id) P.sessions ≡ false → AreProcs es P → AreProcs (left es) P
   procs-left es P none h = record {
     numbered = h.numbered;
-    users = each-from (λ (s : Session). IsLive (left es) s.user) P.sessions (λ s c.
-        live-left es s.user (apart s.user (none-at (is_session_of id) P.sessions s none c))
-        (each-at (λ (s : Session). IsLive es s.user) P.sessions s h.users c));
+    users = each-from (λ (s : Session). IsUser (left es) s.user) P.sessions (λ s c.
+        user-left es s.user (apart s.user (none-at (is_session_of id) P.sessions s none c))
+        (each-at (λ (s : Session). IsUser es s.user) P.sessions s h.users c));
     in_sessions = h.in_sessions;
     opening_session = h.opening_session;
     opening_process = h.opening_process;

@@ -1,9 +1,9 @@
 -- Kinds: the ends of an assignment are live, and their kinds stay where an element comes.
 use Rattle.std.proofs.Common.{◌≡◌, ℕ, List, [], Option, Some, None, IsSome, Bool, true, refl}
 use Rattle.pm_model.specs.State.{element, element_at}
-use Rattle.pm_model.specs.Effect.{both, may_assign, may_create, placed}
+use Rattle.pm_model.specs.Effect.{both, has_kind, is_user_kind, may_assign, may_create, placed}
 use Rattle.pm_model.specs.Resolve.{unused}
-use Rattle.pm_model.specs.Formed.{AreRising, IsLive, JoinsKinds}
+use Rattle.pm_model.specs.Formed.{AreRising, IsLive, IsUser, JoinsKinds}
 use Rattle.pm_model.specs.declared.elements.Kind.{Kind}
 use Rattle.pm_model.specs.declared.elements.Element.{Element}
 use Rattle.pm_laws.proofs.Numbers.{live-placed, new-placed}
@@ -13,6 +13,13 @@ pub both-live : (fits : Kind → Kind → Bool) (a b : Option Element) → both 
 both-live fits (Some a) (Some b) h = (refl, refl)
 both-live fits (Some a) None h = absurd (cc)
 both-live fits None b h = absurd (cc)
+
+-- a user is live
+pub user-lives : (es : List Element) (n : ℕ) → IsUser es n → IsLive es n
+user-lives es n h = of (element_at es n) h where
+  of : (o : Option Element) → has_kind is_user_kind o ≡ true → IsSome o
+  of (Some e) is = refl
+  of None is = absurd (cc)
 
 both-kinds : (fits : Kind → Kind → Bool) (a b : Element) (c : Option Element) → a.kind ≡ b.kind → both fits (Some a) c ≡ true →
     both fits (Some b) c ≡ true

@@ -7,14 +7,14 @@ use Rattle.pm_model.specs.Sessions.{Procs, is_session_of, opening_procs, process
 use Rattle.pm_model.specs.Prohibitions.{without_processes, names_element}
 use Rattle.pm_model.specs.RightSet.{opening_rights}
 use Rattle.pm_model.specs.Containment.{contained}
-use Rattle.pm_model.specs.Effect.{refusal, changed, effect, checks, placed, joins, has_child, has_end, is_in_use}
+use Rattle.pm_model.specs.Effect.{refusal, changed, effect, checks, max_elements, placed, joins, has_child, has_end, is_in_use}
 use Rattle.pm_model.specs.Resolve.{unused}
 use Rattle.pm_model.specs.Formed.{Each, IsWellFormed, IsAcyclic, IsNamed, AreElements, AreAssigned, AreAssociations, AreProhibitions, AreRights, AreProcs, StandsAssigned}
 use Rattle.pm_model.specs.declared.elements.Element.{Element}
 use Rattle.pm_model.specs.declared.rights.Association.{Association}
 use Rattle.pm_model.specs.declared.prohibitions.Prohibition.{Prohibition}
 use Rattle.pm_model.specs.declared.requests.Change.{Change}
-use Rattle.pm_model.specs.declared.requests.Change.TheVariants.{Create, Delete, Assign, Deassign, Associate, Dissociate, OpenSession, CloseSession, StartProcess, EndProcess, Prohibit, Lift, DefineRight}
+use Rattle.pm_model.specs.declared.requests.Change.TheVariants as change
 use Rattle.pm_laws.proofs.Items.{contains-none}
 use Rattle.pm_laws.proofs.Checks.{passed, unless-ok}
 use Rattle.pm_laws.proofs.Numbers.{length-placed, rising-placed}
@@ -31,7 +31,7 @@ use Rattle.pm_laws.proofs.Opening.{opening-placed, opening-within, opening-witho
 -- ---- elements
 
 pub elements-placed : (es : List Element) (x : Element) → AreElements es → x.number ≡ unused es →
-    list_any (is_named x.name) es ≡ false → length es < 16384 → AreElements (placed x es)
+    list_any (is_named x.name) es ≡ false → length es < max_elements → AreElements (placed x es)
 elements-placed es x h u free room = let l = length-placed x es in record {
   rising = rising-placed x 0 es h.rising u;
   named = names-placed es x h.named free;
@@ -121,7 +121,7 @@ with-element G x pairs f u e h more = record {
 
 -- without an element that nothing is assigned to and nothing else names
 pub without-element : (G : Graph) (id : ℕ) → IsWellFormed G → 3 ≤ id → has_child G.assigned id ≡ false → is_in_use G id ≡ false →
-    IsWellFormed (changed G (Delete id))
+    IsWellFormed (changed G (change.Delete id))
 without-element G id f later empty free = record {
   elements = elements-left id G.elements f.elements;
   assigned = assigned-left id G.elements G.assigned empty f.assigned;
@@ -141,63 +141,63 @@ without-element G id f later empty free = record {
 -- ---- changes
 
 pub formed-changed : (G : Graph) (c : Change) → IsWellFormed G → IsNamed G c → refusal G c ≡ None → IsWellFormed (changed G c)
-formed-changed G (Create id kind name None) f n r =
+formed-changed G (change.Create id kind name None) f n r =
     let x = element id kind name in
-    let p = passed (checks G (Create id kind name None)) r in
+    let p = passed (checks G (change.Create id kind name None)) r in
     with-element G x G.assigned f n.0 (elements-placed G.elements x f.elements n.0 p.1.0 (leb-false _ _ p.1.1.0))
     (assigned-placed G.elements x G.assigned f.elements n.0 f.assigned n.1) (λ a b there. there)
-formed-changed G (Create id kind name (Some c)) f n r =
+formed-changed G (change.Create id kind name (Some c)) f n r =
     let x = element id kind name in
-    let p = passed (checks G (Create id kind name (Some c))) r in
+    let p = passed (checks G (change.Create id kind name (Some c))) r in
     with-element G x _ f n.0 (elements-placed G.elements x f.elements n.0 p.1.0 (leb-false _ _ p.1.1.0))
     (assigned-under G.elements x G.assigned c f.elements n.0 f.assigned (not-false _ p.0) (leb-false _ _ p.1.1.1.0))
     (pushed-within G.assigned id c)
-formed-changed G (Delete id) f n r =
-    let p = passed (checks G (Delete id)) r in without-element G id f (ltb-false id 3 p.0) p.1.0 p.1.1.0
-formed-changed G (Assign x y) f n r =
-    let p = passed (checks G (Assign x y)) r in
+formed-changed G (change.Delete id) f n r =
+    let p = passed (checks G (change.Delete id)) r in without-element G id f (ltb-false id 3 p.0) p.1.0 p.1.1.0
+formed-changed G (change.Assign x y) f n r =
+    let p = passed (checks G (change.Assign x y)) r in
     with-assigned G _ f (assigned-pushed G.elements G.assigned x y f.assigned (not-false _ p.0) p.1.0 p.1.1.0 (leb-false _ _ p.1.1.1.0))
     (opening-within G.assigned (G.assigned ++ (x, y) ∷ []) (pushed-within G.assigned x y) f.opening.assigned)
-formed-changed G (Deassign x y) f n r =
-    let p = passed (checks G (Deassign x y)) r in
+formed-changed G (change.Deassign x y) f n r =
+    let p = passed (checks G (change.Deassign x y)) r in
     with-assigned G _ f (assigned-without G.elements G.assigned x y f.assigned (not-false _ p.1.0) p.1.1.0)
     (opening-without G.assigned x y p.0 f.opening.assigned)
-formed-changed G (Associate u r t) f n e =
-    let p = passed (checks G (Associate u r t)) e in
+formed-changed G (change.Associate u r t) f n e =
+    let p = passed (checks G (change.Associate u r t)) e in
     with-associations G _ f (associations-joined G.elements G.rights G.associations (record { ua = u; rights = r; at = t }) f.associations
     (not-false _ p.0) n.2 p.1.0 (leb-false _ _ p.1.1.0))
-formed-changed G (Dissociate u t) f n e =
+formed-changed G (change.Dissociate u t) f n e =
     with-associations G _ f (associations-kept G.elements G.rights G.associations (λ a. not (joins u t a)) f.associations)
-formed-changed G (OpenSession u) f n r =
-    let p = passed (checks G (OpenSession u)) r in
-    with-procs G (with_session u G.procs) G.prohibitions f (procs-opened G.elements G.procs u f.procs n.0 (leb-false _ _ p.1.0))
+formed-changed G (change.OpenSession u) f n r =
+    let p = passed (checks G (change.OpenSession u)) r in
+    with-procs G (with_session u G.procs) G.prohibitions f (procs-opened G.elements G.procs u f.procs (not-false _ p.0) (leb-false _ _ p.1.0))
     (prohibitions-opened G.elements G.procs G.rights u G.prohibitions f.prohibitions)
-formed-changed G (CloseSession n) f _ r =
-    let p = passed (checks G (CloseSession n)) r in
+formed-changed G (change.CloseSession n) f _ r =
+    let p = passed (checks G (change.CloseSession n)) r in
     with-procs G (without_session n G.procs) (without_processes (processes_of G.procs n) G.prohibitions) f
     (procs-closed G.elements G.procs n f.procs p.0)
     (prohibitions-left G.elements G.procs (without_session n G.procs) G.rights (processes_of G.procs n) G.prohibitions
     (process-left G.procs n) f.prohibitions)
-formed-changed G (StartProcess n) f _ r =
-    let p = passed (checks G (StartProcess n)) r in
+formed-changed G (change.StartProcess n) f _ r =
+    let p = passed (checks G (change.StartProcess n)) r in
     with-procs G (with_process n G.procs) G.prohibitions f
     (procs-started G.elements G.procs n f.procs (not-false _ p.0) (leb-false _ _ p.1.0))
     (prohibitions-started G.elements G.procs G.rights n G.prohibitions f.prohibitions)
-formed-changed G (EndProcess n) f _ r =
-    let p = passed (checks G (EndProcess n)) r in
+formed-changed G (change.EndProcess n) f _ r =
+    let p = passed (checks G (change.EndProcess n)) r in
     with-procs G (without_process n G.procs) (without_processes (n ∷ []) G.prohibitions) f
     (procs-ended G.elements G.procs n f.procs p.0)
     (prohibitions-left G.elements G.procs (without_process n G.procs) G.rights (n ∷ []) G.prohibitions
     (process-kept G.procs n) f.prohibitions)
-formed-changed G (Prohibit q) f n r =
-    let p = passed (checks G (Prohibit q)) r in
+formed-changed G (change.Prohibit q) f n r =
+    let p = passed (checks G (change.Prohibit q)) r in
     with-prohibitions G (G.prohibitions ++ q ∷ []) f
     (prohibitions-pushed G.elements G.procs G.rights G.prohibitions q f.prohibitions
     (record { subject = n.0; inc = n.1; exc = n.2; named = n.3; ranged = p.1.1.0 }) p.1.0 (leb-false _ _ p.1.1.1.0))
-formed-changed G (Lift i) f n r =
+formed-changed G (change.Lift i) f n r =
     with-prohibitions G (remove G.prohibitions i) f (prohibitions-removed G.elements G.procs G.rights G.prohibitions i f.prohibitions n)
-formed-changed G (DefineRight name) f _ r =
-    let p = passed (checks G (DefineRight name)) r in
+formed-changed G (change.DefineRight name) f _ r =
+    let p = passed (checks G (change.DefineRight name)) r in
     with-right G name f (rights-more G.rights name f.rights (or_parts _ _ p.0).0 (leb-false _ _ p.1.0))
 
 -- what an effect gives is well formed

@@ -8,7 +8,7 @@ use Rattle.pm_model.specs.Formed.{Each, IsWellFormed}
 use Rattle.pm_model.specs.declared.sessions.Session.{Session}
 use Rattle.pm_model.specs.declared.sessions.Process.{Process}
 use Rattle.pm_model.specs.declared.requests.Change.{Change}
-use Rattle.pm_model.specs.declared.requests.Change.TheVariants.{Create, Delete, Assign, Deassign, Associate, Dissociate, OpenSession, CloseSession, StartProcess, EndProcess, Prohibit, Lift, DefineRight}
+use Rattle.pm_model.specs.declared.requests.Change.TheVariants as change
 use Rattle.pm_laws.specs.Meaning.{GivesNext, GiveNext}
 use Rattle.pm_laws.proofs.Items.{each-from, filter-contains}
 use Rattle.pm_laws.proofs.Checks.{unless-ok}
@@ -44,25 +44,25 @@ changed-gives G c = of c where
   processes = given-none (λ (p : Process). p.number) G.procs.processes G.procs.next_process
 
   of : (c : Change) → GiveNext G (changed G c)
-  of (Create id kind name into) = (sessions, processes)
-  of (Delete id) = (sessions, processes)
-  of (Assign x y) = (sessions, processes)
-  of (Deassign x y) = (sessions, processes)
-  of (Associate u r t) = (sessions, processes)
-  of (Dissociate u t) = (sessions, processes)
-  of (OpenSession u) =
+  of (change.Create id kind name into) = (sessions, processes)
+  of (change.Delete id) = (sessions, processes)
+  of (change.Assign x y) = (sessions, processes)
+  of (change.Deassign x y) = (sessions, processes)
+  of (change.Associate u r t) = (sessions, processes)
+  of (change.Dissociate u t) = (sessions, processes)
+  of (change.OpenSession u) =
       (given-one (λ (s : Session). s.number) G.procs.sessions (session G.procs.next_session u) G.procs.next_session refl, processes)
-  of (CloseSession n) = (
+  of (change.CloseSession n) = (
     given-fewer (λ (s : Session). s.number) (λ s. not (is_session n s)) G.procs.sessions G.procs.next_session,
     given-fewer (λ (p : Process). p.number) (λ p. not (is_of_session n p)) G.procs.processes G.procs.next_process,
   )
-  of (StartProcess n) =
+  of (change.StartProcess n) =
       (sessions, given-one (λ (p : Process). p.number) G.procs.processes (process G.procs.next_process n) G.procs.next_process refl)
-  of (EndProcess n) =
+  of (change.EndProcess n) =
       (sessions, given-fewer (λ (p : Process). p.number) (λ p. not (is_process n p)) G.procs.processes G.procs.next_process)
-  of (Prohibit p) = (sessions, processes)
-  of (Lift i) = (sessions, processes)
-  of (DefineRight name) = (sessions, processes)
+  of (change.Prohibit p) = (sessions, processes)
+  of (change.Lift i) = (sessions, processes)
+  of (change.DefineRight name) = (sessions, processes)
 
 -- what an effect makes has the next numbers
 pub numbers-given : (G H : Graph) (c : Change) → effect G c ≡ Ok H → GiveNext G H

@@ -18,6 +18,7 @@ pub mod Live
 pub mod Nameable
 pub mod Names
 pub mod Numbers
+pub mod Once
 pub mod Opening
 pub mod Pairs
 pub mod Procs

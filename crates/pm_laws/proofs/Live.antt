@@ -6,7 +6,7 @@ use Rattle.std.proofs.lemmas.List.Elements.{All-contains, All-contains_itself, A
 use Rattle.pm_model.specs.State.{Graph, element_at, is_class, classes_in}
 use Rattle.pm_model.specs.Sessions.{Procs, session_at, process_at, user_of_session, user_of}
 use Rattle.pm_model.specs.Effect.{may_associate}
-use Rattle.pm_model.specs.Formed.{Each, IsLive, IsSubjectLive, IsProhibition, JoinsAttributes, IsWellFormed}
+use Rattle.pm_model.specs.Formed.{Each, IsLive, IsUser, IsSubjectLive, IsProhibition, JoinsAttributes, IsWellFormed}
 use Rattle.pm_model.specs.declared.elements.Element.{Element}
 use Rattle.pm_model.specs.declared.rights.Association.{Association}
 use Rattle.pm_model.specs.declared.prohibitions.Prohibition.{Prohibition}
@@ -17,7 +17,7 @@ use Rattle.pm_model.specs.declared.sessions.Process as process
 use Rattle.pm_laws.proofs.Items.{each-to, each-at, each-all}
 use Rattle.pm_laws.proofs.Procs.{session-is}
 use Rattle.pm_laws.proofs.Numbers.{stands-at, live-some}
-use Rattle.pm_laws.proofs.Ends.{both-live}
+use Rattle.pm_laws.proofs.Ends.{both-live, user-lives}
 
 -- each class is live
 pub classes-live : (G : Graph) → IsWellFormed G → All (λ n. IsTrue (is_some (element_at G.elements n))) (classes_in G.elements)
@@ -78,9 +78,13 @@ user-found P n u h = of (process_at P n) refl h where
   of (Some p) is h = with-session p is (session_at P p.session) refl h
   of None is h = absurd (cc)
 
--- the user of a process is live
-pub user-live : (G : Graph) (p u : ℕ) → IsWellFormed G → user_of G.procs p ≡ Some u → IsLive G.elements u
-user-live G p u f h =
+-- the user of a process is a user
+pub user-is : (G : Graph) (p u : ℕ) → IsWellFormed G → user_of G.procs p ≡ Some u → IsUser G.elements u
+user-is G p u f h =
     let found = user-found G.procs p u h in
     let there = (session-is G.procs found.0.session found.1 found.3).0 in
-    subst (IsLive G.elements) found.4 (each-at (λ (s : Session). IsLive G.elements s.user) G.procs.sessions found.1 f.procs.users there)
+    subst (IsUser G.elements) found.4 (each-at (λ (s : Session). IsUser G.elements s.user) G.procs.sessions found.1 f.procs.users there)
+
+-- and so live
+pub user-live : (G : Graph) (p u : ℕ) → IsWellFormed G → user_of G.procs p ≡ Some u → IsLive G.elements u
+user-live G p u f h = user-lives G.elements u (user-is G p u f h)

@@ -2,6 +2,7 @@
 use Rattle.std.proofs.Common.{◌≡◌, ℕ, ◌==◌, Bool, IsTrue, List, [], ◌∷◌, Option, Some, None, is_some, Result, Ok, Err, IfErr, IfSome, MatchResult, not, ◌&&◌, nat_le, refl, subst}
 use Rattle.std.specs.Bool.{⊤}
 use Rattle.std.proofs.lemmas.Bool.{cond_both}
+use Rattle.std.proofs.lemmas.Option.{same_Some}
 use Rattle.pm_model.specs.Results.{and_then}
 use Rattle.pm_model.specs.State.{State, Graph, root, element_at, classes_in}
 use Rattle.pm_model.specs.Containment.{contained}
@@ -75,14 +76,11 @@ denial-live G u q r e reason f =
     cond_both (u == root && is_administrative r) None (reason_of (lacking_in G u r e) (forbidding_in G u q r e))
     (λ (o : Option Reason). o ≡ Some reason → IsReasonNameable (λ n. is_some (element_at G.elements n)) reason)
     (λ is h. absurd (cc)) (λ is. of (lacking_in G u r e) (forbidding_in G u q r e) refl) where
-      some-is : (a b : Reason) → Some a ≡ Some b → a ≡ b
-      some-is a b same = cc
-
       of : (lack : Option ℕ) (bar : Option prohibitions.Prohibition) → lacking_in G u r e ≡ lack → reason_of lack bar ≡ Some reason →
           IsReasonNameable (λ n. is_some (element_at G.elements n)) reason
       of (Some pc) bar is h =
-          subst (IsReasonNameable (λ n. is_some (element_at G.elements n))) (some-is (Class pc) reason h) (lacking-live G u r e pc f is)
-      of None (Some p) is h = subst (IsReasonNameable (λ n. is_some (element_at G.elements n))) (some-is (Prohibition p.name) reason h) tt
+          subst (IsReasonNameable (λ n. is_some (element_at G.elements n))) (same_Some (Class pc) reason h) (lacking-live G u r e pc f is)
+      of None (Some p) is h = subst (IsReasonNameable (λ n. is_some (element_at G.elements n))) (same_Some (Prohibition p.name) reason h) tt
       of None None is h = absurd (cc)
 
 module _ (G : Graph) where

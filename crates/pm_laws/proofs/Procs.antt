@@ -3,15 +3,16 @@ use Rattle.std.proofs.Common.{◌≡◌, ◌≤◌, ◌<◌, ◌+◌, ◌==◌, 
 use Rattle.std.specs.List.{list_any, find}
 use Rattle.std.proofs.lemmas.Bool.{eqb-true, eqb-false, ne_eqb, not_from_false}
 use Rattle.pm_model.specs.State.{root}
-use Rattle.pm_model.specs.Sessions.{Procs, session, process, is_session, is_process, is_of_session, session_at, process_at, with_session, without_session, with_process, without_process}
+use Rattle.pm_model.specs.Sessions.{Procs, session, process, is_session, is_process, is_of_session, session_at, process_at, max_sessions, max_processes, with_session, without_session, with_process, without_process}
 use Rattle.pm_model.specs.Effect.{placed}
 use Rattle.pm_model.specs.Resolve.{unused}
-use Rattle.pm_model.specs.Formed.{IsLive, RiseBelow, AreProcs, AreElements}
+use Rattle.pm_model.specs.Formed.{IsUser, RiseBelow, AreProcs, AreElements}
 use Rattle.pm_model.specs.declared.elements.Element.{Element}
 use Rattle.pm_model.specs.declared.sessions.Session.{Session}
 use Rattle.pm_model.specs.declared.sessions.Process.{Process}
 use Rattle.pm_laws.proofs.Items.{each-push, each-filter, each-to, each-at, each-from, filter-contains, length-filter, filter-split, contains-cases, contains-none, find-is, find-live, find-any, find-push, find-filter, find-found}
 use Rattle.pm_laws.proofs.Numbers.{live-placed}
+use Rattle.pm_laws.proofs.Ends.{user-lives}
 
 -- ---- numbers that rise
 
@@ -69,14 +70,14 @@ pub process-is : (P : Procs) (n : ℕ) (p : Process) → process_at P n ≡ Some
 process-is P n p h = let q = find-found (is_process n) P.processes p h in (q.0, eqb-true p.number n q.1)
 
 -- a session opened
-pub procs-opened : (es : List Element) (P : Procs) (u : ℕ) → AreProcs es P → IsLive es u → length P.sessions < 4096 →
+pub procs-opened : (es : List Element) (P : Procs) (u : ℕ) → AreProcs es P → IsUser es u → length P.sessions < max_sessions →
     AreProcs es (with_session u P)
-procs-opened es P u h live room = let s = session P.next_session u in let l = length-append P.sessions (s ∷ []) in record {
+procs-opened es P u h user room = let s = session P.next_session u in let l = length-append P.sessions (s ∷ []) in record {
   numbered = record {
     sessions = rise-push (λ (s : Session). s.number) 0 P.sessions s P.next_session h.numbered.sessions refl;
     processes = h.numbered.processes;
   };
-  users = each-push (λ (s : Session). IsLive es s.user) P.sessions s h.users live;
+  users = each-push (λ (s : Session). IsUser es s.user) P.sessions s h.users user;
   in_sessions = each-to (λ (p : Process). IsSome (session_at P p.session)) (λ (p : Process). IsSome (session_at (with_session u P) p.session))
       (λ p there.
       let f = find-is (is_session p.session) P.sessions there in
@@ -97,7 +98,7 @@ procs-closed es P n h not_first =
         sessions = rise-filter (λ (s : Session). s.number) (λ s. not (is_session n s)) 0 P.sessions P.next_session h.numbered.sessions;
         processes = rise-filter (λ (p : Process). p.number) (λ p. not (is_of_session n p)) 0 P.processes P.next_process h.numbered.processes;
       };
-      users = each-filter (λ (s : Session). IsLive es s.user) (λ s. not (is_session n s)) P.sessions h.users;
+      users = each-filter (λ (s : Session). IsUser es s.user) (λ s. not (is_session n s)) P.sessions h.users;
       in_sessions = each-from (λ (p : Process). IsSome (session_at (without_session n P) p.session))
           (filter (λ p. not (is_of_session n p)) P.processes) stays;
       opening_session = find-filter (is_session 0) (λ s. not (is_session n s)) P.sessions (session 0 root) h.opening_session (other 0 n first);
@@ -121,7 +122,7 @@ procs-closed es P n h not_first =
 
 -- a process started
 pub procs-started : (es : List Element) (P : Procs) (n : ℕ) → AreProcs es P → list_any (is_session n) P.sessions ≡ true →
-    length P.processes < 16384 → AreProcs es (with_process n P)
+    length P.processes < max_processes → AreProcs es (with_process n P)
 procs-started es P n h there room = let p = process P.next_process n in let l = length-append P.processes (p ∷ []) in record {
   numbered = record {
     sessions = h.numbered.sessions;
@@ -157,8 +158,8 @@ pub procs-placed : (es : List Element) (x : Element) (P : Procs) → AreElements
     AreProcs (placed x es) P
 procs-placed es x P e u h = record {
   numbered = h.numbered;
-  users = each-to (λ (s : Session). IsLive es s.user) (λ (s : Session). IsLive (placed x es) s.user)
-      (λ s live. rw (live-placed x es s.user e.rising u live) live) P.sessions h.users;
+  users = each-to (λ (s : Session). IsUser es s.user) (λ (s : Session). IsUser (placed x es) s.user)
+      (λ s user. rw (live-placed x es s.user e.rising u (user-lives es s.user user)) user) P.sessions h.users;
   in_sessions = h.in_sessions;
   opening_session = h.opening_session;
   opening_process = h.opening_process;

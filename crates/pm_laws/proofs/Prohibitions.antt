@@ -5,7 +5,7 @@ use Rattle.std.proofs.lemmas.Bool.{or_parts, eqb-true, not-true, not_from_false,
 use Rattle.std.proofs.lemmas.List.Edits.{length-remove}
 use Rattle.std.proofs.lemmas.List.Elements.{Contains-push_cases}
 use Rattle.pm_model.specs.Sessions.{Procs, process, process_at, processes_of, is_process, is_of_session, with_session, without_session, with_process, without_process}
-use Rattle.pm_model.specs.Prohibitions.{is_called, is_process_in, without_processes}
+use Rattle.pm_model.specs.Prohibitions.{is_called, is_process_in, without_processes, max_prohibitions}
 use Rattle.pm_model.specs.Effect.{placed}
 use Rattle.pm_model.specs.Resolve.{unused}
 use Rattle.pm_model.specs.Formed.{IsLive, AreElements, AreOnceCalled, IsSubjectLive, IsProhibition, AreProhibitions}
@@ -56,7 +56,7 @@ once_called-removed (p ∷ ps) (suc i) h = (others, once_called-removed ps i h.1
 module _ (es : List Element) (P : Procs) (rights : List (List ℕ)) where
   -- one more
   pub prohibitions-pushed : (ps : List Prohibition) (p : Prohibition) → AreProhibitions es P rights ps → IsProhibition es P rights p →
-      list_any (is_called p.name) ps ≡ false → length ps < 4096 → AreProhibitions es P rights (ps ++ p ∷ [])
+      list_any (is_called p.name) ps ≡ false → length ps < max_prohibitions → AreProhibitions es P rights (ps ++ p ∷ [])
   prohibitions-pushed ps p h new free room = let l = length-append ps (p ∷ []) in record {
     once = once_called-push ps p h.once free;
     each = each-push (IsProhibition es P rights) ps p h.each new;

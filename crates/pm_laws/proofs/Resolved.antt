@@ -18,7 +18,7 @@ use Rattle.pm_model.specs.declared.elements.Element.{Element}
 use Rattle.pm_model.specs.declared.requests.Command.{Command}
 use Rattle.pm_model.specs.declared.requests.Command.TheVariants as command
 use Rattle.pm_model.specs.declared.requests.Change.{Change}
-use Rattle.pm_model.specs.declared.requests.Change.TheVariants.{Create, Delete, Assign, Deassign, Associate, Dissociate, Prohibit, Lift, DefineRight}
+use Rattle.pm_model.specs.declared.requests.Change.TheVariants as change
 use Rattle.pm_model.specs.declared.prohibitions.Subject.{Subject}
 use Rattle.pm_model.specs.declared.prohibitions.Subject.TheVariants as subject
 use Rattle.pm_model.specs.declared.replies.Refusal.{Refusal}
@@ -129,41 +129,41 @@ pub named-as : (G : Graph) (c d : Change) → ◌≡◌ {A = Result Change Refus
 named-as G c d h n = subst (IsNamed G) (ok-is (Ok c) c d refl h) n
 
 pub resolve-named : (G : Graph) (c : Command) (d : Change) → resolve G c ≡ Ok d → IsNamed G d
-resolve-named G (command.CreatePc name) d h = named-as G (Create (unused G.elements) Pc name None) d h (refl, refl)
+resolve-named G (command.CreatePc name) d h = named-as G (change.Create (unused G.elements) Pc name None) d h (refl, refl)
 resolve-named G (command.Create kind name into) d h =
-    let p = and_then-ok (look_up G into) (λ c. Ok (Create (unused G.elements) kind name (Some c))) d h in
-    named-as G (Create (unused G.elements) kind name (Some p.0)) d p.2 (refl, looked_up-live G into p.0 p.1)
+    let p = and_then-ok (look_up G into) (λ c. Ok (change.Create (unused G.elements) kind name (Some c))) d h in
+    named-as G (change.Create (unused G.elements) kind name (Some p.0)) d p.2 (refl, looked_up-live G into p.0 p.1)
 resolve-named G (command.Delete name) d h =
-    let n = and_then-ok (look_up G name) (λ n. Ok (Delete n)) d h in
-    named-as G (Delete n.0) d n.2 (looked_up-live G name n.0 n.1)
+    let n = and_then-ok (look_up G name) (λ n. Ok (change.Delete n)) d h in
+    named-as G (change.Delete n.0) d n.2 (looked_up-live G name n.0 n.1)
 resolve-named G (command.Assign from to) d h =
-    let p = and_then-ok (look_up_both G from to) (λ p. Ok (Assign p.0 p.1)) d h in
-    named-as G (Assign p.0.0 p.0.1) d p.2 (both_looked_up-live G from to p.0 p.1)
+    let p = and_then-ok (look_up_both G from to) (λ p. Ok (change.Assign p.0 p.1)) d h in
+    named-as G (change.Assign p.0.0 p.0.1) d p.2 (both_looked_up-live G from to p.0 p.1)
 resolve-named G (command.Deassign from to) d h =
-    let p = and_then-ok (look_up_both G from to) (λ p. Ok (Deassign p.0 p.1)) d h in
-    named-as G (Deassign p.0.0 p.0.1) d p.2 (both_looked_up-live G from to p.0 p.1)
+    let p = and_then-ok (look_up_both G from to) (λ p. Ok (change.Deassign p.0 p.1)) d h in
+    named-as G (change.Deassign p.0.0 p.0.1) d p.2 (both_looked_up-live G from to p.0 p.1)
 resolve-named G (command.Associate ua rights at) d h =
-    let u = and_then-ok (look_up G ua) (λ u. and_then (look_up_rights G rights) (λ r. and_then (look_up G at) (λ t. Ok (Associate u r t)))) d h in
-    let r = and_then-ok (look_up_rights G rights) (λ r. and_then (look_up G at) (λ t. Ok (Associate u.0 r t))) d u.2 in
-    let t = and_then-ok (look_up G at) (λ t. Ok (Associate u.0 r.0 t)) d r.2 in
-    named-as G (Associate u.0 r.0 t.0) d t.2
+    let u = and_then-ok (look_up G ua) (λ u. and_then (look_up_rights G rights) (λ r. and_then (look_up G at) (λ t. Ok (change.Associate u r t)))) d h in
+    let r = and_then-ok (look_up_rights G rights) (λ r. and_then (look_up G at) (λ t. Ok (change.Associate u.0 r t))) d u.2 in
+    let t = and_then-ok (look_up G at) (λ t. Ok (change.Associate u.0 r.0 t)) d r.2 in
+    named-as G (change.Associate u.0 r.0 t.0) d t.2
     (looked_up-live G ua u.0 u.1, looked_up-live G at t.0 t.1, looked_up-rights G rights r.0 r.1)
 resolve-named G (command.Dissociate ua at) d h =
-    let p = and_then-ok (look_up_both G ua at) (λ p. Ok (Dissociate p.0 p.1)) d h in
-    named-as G (Dissociate p.0.0 p.0.1) d p.2 (both_looked_up-live G ua at p.0 p.1)
+    let p = and_then-ok (look_up_both G ua at) (λ p. Ok (change.Dissociate p.0 p.1)) d h in
+    named-as G (change.Dissociate p.0.0 p.0.1) d p.2 (both_looked_up-live G ua at p.0 p.1)
 resolve-named G (command.Prohibit name s rights inc exc mode) d h =
     let t = and_then-ok (look_up_subject G s) (λ t. and_then (look_up_rights G rights) (λ r. and_then (look_up_all G inc) (λ i.
-    and_then (look_up_all G exc) (λ e. Ok (Prohibit (prohibition name t r i e mode)))))) d h in
+    and_then (look_up_all G exc) (λ e. Ok (change.Prohibit (prohibition name t r i e mode)))))) d h in
     let r = and_then-ok (look_up_rights G rights) (λ r. and_then (look_up_all G inc) (λ i. and_then (look_up_all G exc) (λ e.
-    Ok (Prohibit (prohibition name t.0 r i e mode))))) d t.2 in
-    let i = and_then-ok (look_up_all G inc) (λ i. and_then (look_up_all G exc) (λ e. Ok (Prohibit (prohibition name t.0 r.0 i e mode)))) d r.2 in
-    let e = and_then-ok (look_up_all G exc) (λ e. Ok (Prohibit (prohibition name t.0 r.0 i.0 e mode))) d i.2 in
-    named-as G (Prohibit (prohibition name t.0 r.0 i.0 e.0 mode)) d e.2
+    Ok (change.Prohibit (prohibition name t.0 r i e mode))))) d t.2 in
+    let i = and_then-ok (look_up_all G inc) (λ i. and_then (look_up_all G exc) (λ e. Ok (change.Prohibit (prohibition name t.0 r.0 i e mode)))) d r.2 in
+    let e = and_then-ok (look_up_all G exc) (λ e. Ok (change.Prohibit (prohibition name t.0 r.0 i.0 e mode))) d i.2 in
+    named-as G (change.Prohibit (prohibition name t.0 r.0 i.0 e.0 mode)) d e.2
     (looked_up-subject G s t.0 t.1, all_looked_up-live G inc i.0 i.1, all_looked_up-live G exc e.0 e.1, looked_up-rights G rights r.0 r.1)
 resolve-named G (command.Lift name) d h =
-    let i = and_then-ok (known name (place_called G.prohibitions name)) (λ i. Ok (Lift i)) d h in
-    named-as G (Lift i.0) d i.2 (known-below (is_called name) G.prohibitions name i.0 i.1)
-resolve-named G (command.DefineRight name) d h = named-as G (DefineRight name) d h tt
+    let i = and_then-ok (known name (place_called G.prohibitions name)) (λ i. Ok (change.Lift i)) d h in
+    named-as G (change.Lift i.0) d i.2 (known-below (is_called name) G.prohibitions name i.0 i.1)
+resolve-named G (command.DefineRight name) d h = named-as G (change.DefineRight name) d h tt
 
 -- what a command makes of a well formed graph is well formed
 pub formed-administered : (G H : Graph) (c : Command) → IsWellFormed G → and_then (resolve G c) (effect G) ≡ Ok H → IsWellFormed H

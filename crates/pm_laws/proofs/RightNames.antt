@@ -5,7 +5,7 @@ use Rattle.std.proofs.Math.Pow.{pow_mono}
 use Rattle.std.proofs.lemmas.Bool.{or_parts}
 use Rattle.std.proofs.lemmas.List.{length-take, take-append-le}
 use Rattle.std.proofs.lemmas.List.Elements.{Contains-push_cases}
-use Rattle.pm_model.specs.RightSet.{opening_rights}
+use Rattle.pm_model.specs.RightSet.{opening_rights, max_rights}
 use Rattle.pm_model.specs.Formed.{AreNamed, NameOnce, AreRights}
 use Rattle.pm_laws.proofs.Items.{none-at, none-from}
 use Rattle.pm_laws.proofs.Names.{other-swapped}
@@ -42,7 +42,7 @@ opening-few rights h =
 
 -- a right more
 pub rights-more : (rights : List (List ℕ)) (name : List ℕ) → AreRights rights → list_any (bytes_eq name) rights ≡ false →
-    length rights < 64 → AreRights (rights ++ name ∷ [])
+    length rights < max_rights → AreRights (rights ++ name ∷ [])
 rights-more rights name h free room = let l = length-append rights (name ∷ []) in record {
   opening = take-append-le 17 rights (name ∷ []) (opening-few rights h.opening) ∙ h.opening;
   once = name_once-push rights name h.once free;

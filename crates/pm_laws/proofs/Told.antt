@@ -15,7 +15,7 @@ use Rattle.pm_model.specs.Formed.{Each}
 use Rattle.pm_model.specs.declared.requests.Command.{Command}
 use Rattle.pm_model.specs.declared.requests.Command.TheVariants as command
 use Rattle.pm_model.specs.declared.requests.Change.{Change}
-use Rattle.pm_model.specs.declared.requests.Change.TheVariants.{Create, Delete, Assign, Deassign, Associate, Dissociate, OpenSession, CloseSession, StartProcess, EndProcess, Prohibit, Lift, DefineRight}
+use Rattle.pm_model.specs.declared.requests.Change.TheVariants as change
 use Rattle.pm_model.specs.declared.prohibitions.Subject.{Subject}
 use Rattle.pm_model.specs.declared.prohibitions.Subject.TheVariants as subject
 use Rattle.pm_model.specs.declared.replies.Refusal.{Refusal}
@@ -90,45 +90,45 @@ module _ (named : ℕ → Bool) where
   pub resolve-told : (G : Graph) (c : Command) → IsTold (resolve G c)
   resolve-told G (command.CreatePc name) = tt
   resolve-told G (command.Create kind name into) =
-      then-told (look_up G into) (λ c. Ok (Create (unused G.elements) kind name (Some c))) (look_up-told G into) (λ c. tt)
-  resolve-told G (command.Delete name) = then-told (look_up G name) (λ n. Ok (Delete n)) (look_up-told G name) (λ n. tt)
+      then-told (look_up G into) (λ c. Ok (change.Create (unused G.elements) kind name (Some c))) (look_up-told G into) (λ c. tt)
+  resolve-told G (command.Delete name) = then-told (look_up G name) (λ n. Ok (change.Delete n)) (look_up-told G name) (λ n. tt)
   resolve-told G (command.Assign from to) =
-      then-told (look_up_both G from to) (λ p. Ok (Assign p.0 p.1)) (both-told G from to) (λ p. tt)
+      then-told (look_up_both G from to) (λ p. Ok (change.Assign p.0 p.1)) (both-told G from to) (λ p. tt)
   resolve-told G (command.Deassign from to) =
-      then-told (look_up_both G from to) (λ p. Ok (Deassign p.0 p.1)) (both-told G from to) (λ p. tt)
+      then-told (look_up_both G from to) (λ p. Ok (change.Deassign p.0 p.1)) (both-told G from to) (λ p. tt)
   resolve-told G (command.Associate ua rights at) =
-      then-told (look_up G ua) (λ u. and_then (look_up_rights G rights) (λ r. and_then (look_up G at) (λ t. Ok (Associate u r t)))) (look_up-told G ua)
-      (λ u. then-told (look_up_rights G rights) (λ r. and_then (look_up G at) (λ t. Ok (Associate u r t))) (rights-told G rights)
-      (λ r. then-told (look_up G at) (λ t. Ok (Associate u r t)) (look_up-told G at) (λ t. tt)))
+      then-told (look_up G ua) (λ u. and_then (look_up_rights G rights) (λ r. and_then (look_up G at) (λ t. Ok (change.Associate u r t)))) (look_up-told G ua)
+      (λ u. then-told (look_up_rights G rights) (λ r. and_then (look_up G at) (λ t. Ok (change.Associate u r t))) (rights-told G rights)
+      (λ r. then-told (look_up G at) (λ t. Ok (change.Associate u r t)) (look_up-told G at) (λ t. tt)))
   resolve-told G (command.Dissociate ua at) =
-      then-told (look_up_both G ua at) (λ p. Ok (Dissociate p.0 p.1)) (both-told G ua at) (λ p. tt)
+      then-told (look_up_both G ua at) (λ p. Ok (change.Dissociate p.0 p.1)) (both-told G ua at) (λ p. tt)
   resolve-told G (command.Prohibit name s rights inc exc mode) =
       then-told (look_up_subject G s) (λ t. and_then (look_up_rights G rights) (λ r. and_then (look_up_all G inc) (λ i.
-      and_then (look_up_all G exc) (λ e. Ok (Prohibit (prohibition name t r i e mode)))))) (subject-told G s)
+      and_then (look_up_all G exc) (λ e. Ok (change.Prohibit (prohibition name t r i e mode)))))) (subject-told G s)
       (λ t. then-told (look_up_rights G rights) (λ r. and_then (look_up_all G inc) (λ i. and_then (look_up_all G exc) (λ e.
-      Ok (Prohibit (prohibition name t r i e mode))))) (rights-told G rights)
-      (λ r. then-told (look_up_all G inc) (λ i. and_then (look_up_all G exc) (λ e. Ok (Prohibit (prohibition name t r i e mode)))) (all-told G inc)
-      (λ i. then-told (look_up_all G exc) (λ e. Ok (Prohibit (prohibition name t r i e mode))) (all-told G exc) (λ e. tt))))
+      Ok (change.Prohibit (prohibition name t r i e mode))))) (rights-told G rights)
+      (λ r. then-told (look_up_all G inc) (λ i. and_then (look_up_all G exc) (λ e. Ok (change.Prohibit (prohibition name t r i e mode)))) (all-told G inc)
+      (λ i. then-told (look_up_all G exc) (λ e. Ok (change.Prohibit (prohibition name t r i e mode))) (all-told G exc) (λ e. tt))))
   resolve-told G (command.Lift name) =
-      then-told (known name (place_called G.prohibitions name)) (λ i. Ok (Lift i)) (known-told name (place_called G.prohibitions name)) (λ i. tt)
+      then-told (known name (place_called G.prohibitions name)) (λ i. Ok (change.Lift i)) (known-told name (place_called G.prohibitions name)) (λ i. tt)
   resolve-told G (command.DefineRight name) = tt
 
   -- ---- preconditions
 
   checks-told : (G : Graph) (change : Change) → Each (λ check. IsTellable check.1) (checks G change)
-  checks-told G (Create id kind name into) = (tt, (tt, (tt, (tt, tt))))
-  checks-told G (Delete id) = (tt, (tt, (tt, tt)))
-  checks-told G (Assign x y) = (tt, (tt, (tt, (tt, tt))))
-  checks-told G (Deassign x y) = (tt, (tt, (tt, tt)))
-  checks-told G (Associate u r t) = (tt, (tt, (tt, tt)))
-  checks-told G (Dissociate u t) = (tt, tt)
-  checks-told G (OpenSession u) = (tt, (tt, tt))
-  checks-told G (CloseSession n) = (tt, (tt, tt))
-  checks-told G (StartProcess n) = (tt, (tt, tt))
-  checks-told G (EndProcess n) = (tt, (tt, tt))
-  checks-told G (Prohibit p) = (tt, (tt, (tt, (tt, tt))))
-  checks-told G (Lift i) = tt
-  checks-told G (DefineRight name) = (tt, (tt, tt))
+  checks-told G (change.Create id kind name into) = (tt, (tt, (tt, (tt, tt))))
+  checks-told G (change.Delete id) = (tt, (tt, (tt, tt)))
+  checks-told G (change.Assign x y) = (tt, (tt, (tt, (tt, tt))))
+  checks-told G (change.Deassign x y) = (tt, (tt, (tt, tt)))
+  checks-told G (change.Associate u r t) = (tt, (tt, (tt, tt)))
+  checks-told G (change.Dissociate u t) = (tt, tt)
+  checks-told G (change.OpenSession u) = (tt, (tt, tt))
+  checks-told G (change.CloseSession n) = (tt, (tt, tt))
+  checks-told G (change.StartProcess n) = (tt, (tt, tt))
+  checks-told G (change.EndProcess n) = (tt, (tt, tt))
+  checks-told G (change.Prohibit p) = (tt, (tt, (tt, (tt, tt))))
+  checks-told G (change.Lift i) = tt
+  checks-told G (change.DefineRight name) = (tt, (tt, tt))
 
   pub effect-told : (G : Graph) (change : Change) → IsTold (effect G change)
   effect-told G change =

@@ -212,8 +212,10 @@ unformed =
     ∷ working started (prohibition (codes "bar") (subject.Process 1) 1 [] [] All ∷ [])
     -- a process of no session
     ∷ working (procs (session 0 2 ∷ []) (process 0 0 ∷ process 1 1 ∷ []) 2 2) []
-    -- a session of no element
+    -- a session of no element, of a class, of a user attribute
     ∷ working (procs (session 0 2 ∷ session 1 9 ∷ []) (process 0 0 ∷ []) 2 1) []
+    ∷ working (procs (session 0 2 ∷ session 1 0 ∷ []) (process 0 0 ∷ []) 2 1) []
+    ∷ working (procs (session 0 2 ∷ session 1 1 ∷ []) (process 0 0 ∷ []) 2 1) []
     -- a session whose number may be given once more
     ∷ working (procs (session 0 2 ∷ session 1 2 ∷ []) (process 0 0 ∷ []) 1 1) []
     -- without the session of the opening

@@ -1,14 +1,20 @@
 -- What the definitions come to, in the standard's words: assignments join elements of certain kinds and order them, each
 -- element leads to a policy class, and each process acts for one user. What is said of names and of numbers is the
 -- project's own.
-use Rattle.std.specs.Prelude.{◌≡◌, ◌≤◌, ◌<◌, ◌+◌, ◌⊎◌, ℕ, List, length, Contains, Some, true}
+use Rattle.std.specs.Prelude.{◌≡◌, ◌≤◌, ◌<◌, ◌+◌, ◌⊎◌, ℕ, List, length, take, slice_get, Contains, Some, true}
 use Rattle.pm_model.specs.State.{State, Graph, element_at}
 use Rattle.pm_model.specs.Containment.{IsContained}
 use Rattle.pm_model.specs.Effect.{may_assign}
-use Rattle.pm_model.specs.Formed.{IsLive, IsWellFormed}
+use Rattle.pm_model.specs.Answer.{answer, longest_history}
+use Rattle.pm_model.specs.History.{replay}
+use Rattle.pm_model.specs.Formed.{IsUser, IsWellFormed}
 use Rattle.pm_model.specs.declared.elements.Kind.TheVariants.{Pc}
 use Rattle.pm_model.specs.declared.elements.Element.{Element}
 use Rattle.pm_model.specs.declared.requests.Entry.{Entry}
+use Rattle.pm_model.specs.declared.replies.Reply.{Reply}
+use Rattle.pm_model.specs.declared.replies.Reply.TheVariants.{Done}
+use Rattle.pm_model.specs.declared.replies.Shown.{Shown}
+use Rattle.pm_model.specs.declared.replies.Shown.TheVariants as shown
 use Rattle.pm_model.specs.declared.sessions.Session.{Session}
 use Rattle.pm_model.specs.declared.sessions.Process.{Process}
 use Rattle.pm_model.specs.declared.prohibitions.Prohibition.{Prohibition}
@@ -39,10 +45,10 @@ ActsFor G n u =
     (p : Process) × (s : Session) × Contains G.procs.processes p × (p.number ≡ n) × Contains G.procs.sessions s × (s.number ≡ p.session)
     × (s.user ≡ u)
 
--- the process acts for this user, who is live, and for no other
+-- the process acts for this live user, and for no other
 pub record ActsForOne (G : Graph) (n u : ℕ) : Type 0 where
   pub acts : ActsFor G n u
-  pub live : IsLive G.elements u
+  pub user : IsUser G.elements u
   pub only : (v : ℕ) → ActsFor G n v → v ≡ u
 
 -- of the session of G that H no longer has nothing is left there: neither it, nor a process of it, nor a prohibition on one
@@ -74,4 +80,19 @@ pub record IsReached (H : List Entry) (S : State) : Type 0 where
   pub formed : IsWellFormed S.graph
   pub given : AreGivenBy S
   pub counted : S.version ≡ length H
-  pub short : length H ≤ 262144
+  pub short : length H ≤ longest_history
+
+-- ---- what the replies of a history tell
+
+-- the entry at this place, from 0, is answered so after the entries before it
+abbrev pub IsRepliedAt : List Entry → ℕ → Reply → Type 0
+IsRepliedAt H i reply = (e : Entry) × (slice_get H i ≡ Some e) × ((answer (replay (take i H)) e.request).reply ≡ reply)
+
+-- of two replies that tell a number, the later tells the higher one
+abbrev pub Rise : (ℕ → Shown) → List Entry → Type 0
+Rise tells H = (i j m n : ℕ) → i < j → IsRepliedAt H i (Done (tells m)) → IsRepliedAt H j (Done (tells n)) → m < n
+
+-- so none is told twice, of a session or of a process
+pub record TellsOnce (H : List Entry) : Type 0 where
+  pub sessions : Rise shown.Session H
+  pub processes : Rise shown.Process H

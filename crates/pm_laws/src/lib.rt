@@ -18,7 +18,7 @@ ghost use Rattle.pm_model.specs.Solo.{solo};
 ghost use Rattle.pm_model.specs.Authority.{is_administrative, denial_in, required, ruling};
 ghost use Rattle.pm_model.specs.RightSet.{is_access_right};
 ghost use Rattle.pm_model.specs.Nameable.{IsNameable};
-ghost use Rattle.pm_model.specs.Formed.{Each, IsLive, HasNext, IsWellFormed, IsNamed};
+ghost use Rattle.pm_model.specs.Formed.{Each, IsLive, IsUser, HasNext, IsWellFormed, IsNamed};
 ghost use Rattle.pm_model.specs.declared.elements.Element.{Element};
 ghost use Rattle.pm_model.specs.declared.requests.Change.{Change};
 ghost use Rattle.pm_model.specs.declared.requests.Change.TheVariants.{CloseSession, Delete};
@@ -29,7 +29,7 @@ ghost use Rattle.pm_model.specs.declared.requests.Request.{Request};
 ghost use Rattle.pm_model.specs.declared.sessions.Session.{Session};
 ghost use Rattle.pm_model.specs.declared.sessions.Process.{Process};
 ghost use Rattle.pm_laws.specs.Examples.{staffed, held, made, refused, refused_at_work, in_use, wards, ruled, unformed};
-ghost use Rattle.pm_laws.specs.Meaning.{IsJoined, IsPartialOrder, IsInClass, IsNumberOf, ActsFor, ActsForOne, IsGone, GiveNext, IsReached};
+ghost use Rattle.pm_laws.specs.Meaning.{IsJoined, IsPartialOrder, IsInClass, IsNumberOf, ActsFor, ActsForOne, IsGone, GiveNext, IsReached, TellsOnce};
 
 /// What a change makes of a well formed graph is well formed.
 pub fn formed_effect()
@@ -87,12 +87,12 @@ pub fn element_is_in_class()
     ensures { (G : Graph) (e : Element) → IsWellFormed G → Contains G.elements e → IsInClass G e }
 {}
 
-/// The user for whom a process acts is live.
-pub fn process_user_live()
-    ensures { (G : Graph) (p u : ℕ) → IsWellFormed G → user_of G.procs p ≡ Some u → IsLive G.elements u }
+/// The one for whom a process acts is a live user.
+pub fn process_acts_for_user()
+    ensures { (G : Graph) (p u : ℕ) → IsWellFormed G → user_of G.procs p ≡ Some u → IsUser G.elements u }
 {}
 
-/// Each process acts for one user, who is live.
+/// Each process acts for one user, and that is a live user.
 #[tactic(auto, using(crate::proofs::Acting::process_acts_for_one_user))]
 pub fn process_acts_for_one_user()
     ensures { (G : Graph) (p : Process) → IsWellFormed G → Contains G.procs.processes p → (u : ℕ) × (user_of G.procs p.number ≡ Some u) × ActsForOne G p.number u }
@@ -213,4 +213,10 @@ pub fn legal_history()
 pub fn one_caller()
     ensures replies { (bytes : List ℕ) → recorded_solo bytes ≡ solo bytes }
     ensures history { (bytes : List ℕ) → IsLegal (history_after [] (events bytes)) }
+{}
+
+/// No number of a session or of a process is told twice: of two replies to entries of a history that
+/// tell one, the later tells the higher.
+pub fn tells_once()
+    ensures { (H : List Entry) → TellsOnce H }
 {}

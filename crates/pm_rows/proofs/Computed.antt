@@ -1,17 +1,18 @@
 -- Histories, computed.
 use Rattle.std.proofs.Common.{◌≡◌, true, false, refl}
 use Rattle.pm_model.specs.Containment.{contained}
-use Rattle.pm_model.specs.RightSet.{opening_rights, command_words}
+use Rattle.pm_model.specs.RightSet.{opening_rights, commands}
+use Rattle.pm_model.specs.Words.{word_text}
 use Rattle.pm_model.specs.History.{replay, IsLegal}
 use Rattle.pm_model.specs.Formed.{Each}
 use Rattle.pm_rows.specs.Histories.{two_entries, after_two, legal, illegal}
 
 pub histories_legal : Each IsLegal legal
-unfolding opening_rights command_words
+unfolding opening_rights commands word_text
 histories_legal = (tt, ((refl, (refl, tt)), ((refl, tt), tt)))
 
 pub histories_illegal : Each (λ H. IsLegal H → ⊥) illegal
-unfolding contained opening_rights command_words
+unfolding contained opening_rights commands word_text
 histories_illegal = (
   λ h. let no : false ≡ true = h.0 in cc,
   (
@@ -33,5 +34,5 @@ histories_illegal = (
 )
 
 pub history_replayed : replay two_entries ≡ after_two
-unfolding opening_rights command_words
+unfolding opening_rights commands word_text
 history_replayed = refl

@@ -7,8 +7,8 @@ pub returns-then-is_met_by-clause-answer : goal.returns-then-is_met_by-clause-an
 returns-then-is_met_by-clause-answer g c =
     let below = (g.R.Reach.relation c.args.reach.now).below in
     let all = g.G.Grants.grantees c.args.grants.now in
-    group-yes below c.args.user c.args.right c.args.element c.args.class all c.loop-i.i c.at.result.now
-    c.loop-i.invariant.rest c.at.ensures (rw c.loop-i.invariant.same at c.if-is_met_by.ensures.answer)
+    group-yes below c.args.user c.args.right c.args.element c.args.class all c.loop-i.i c.grantee.result.now
+    c.loop-i.invariant.rest c.grantee.ensures (rw c.loop-i.invariant.same at c.if-is_met_by.ensures.answer)
 
 pub loop-i-preserved : goal.loop-i-preserved
 loop-i-preserved g c =
@@ -16,6 +16,6 @@ loop-i-preserved g c =
     let all = g.G.Grants.grantees c.args.grants.now in
     record {
       same = c.is_met_by.ensures.same ∙ c.loop-i.invariant.same;
-      rest = group-no below c.args.user c.args.right c.args.element c.args.class all c.loop-i.i c.at.result.now
-          c.loop-i.invariant.rest c.at.ensures (rw c.loop-i.invariant.same at c.if-is_met_by.ensures.answer);
+      rest = group-no below c.args.user c.args.right c.args.element c.args.class all c.loop-i.i c.grantee.result.now
+          c.loop-i.invariant.rest c.grantee.ensures (rw c.loop-i.invariant.same at c.if-is_met_by.ensures.answer);
     }

@@ -4,9 +4,9 @@ use Rattle.std.specs.Fmt.{digits}
 use Rattle.serde_json.proofs.OnLiterals.{serde_json_on_literals}
 use Rattle.pm_model.specs.Words.{key_text, word_text}
 use Rattle.pm_model.specs.Containment.{contained}
-use Rattle.pm_model.specs.RightSet.{opening_rights, command_words}
+use Rattle.pm_model.specs.RightSet.{opening_rights, commands}
 use Rattle.pm_rows.proofs.rows_hold.Goals as goal
 
 pub returns : goal.returns
-unfolding serde_json_on_literals key_text word_text contained opening_rights command_words is_utf8 chars digits
+unfolding serde_json_on_literals key_text word_text contained opening_rights commands is_utf8 chars digits
 returns c = (refl, (refl, (refl, (refl, (refl, (refl, (refl, (refl, (refl, (refl, (refl, (refl, (refl, (refl, (refl, tt)))))))))))))))

@@ -1,19 +1,18 @@
-use Rattle.pm_model.specs.Authority.{lacking_in}
+use Rattle.pm_model.specs.State.{classes_in}
 use Rattle.pm_model.specs.Containment.{contained}
-use Rattle.pm_model.specs.Decision.{lacking, associations_of}
+use Rattle.pm_model.specs.Decision.{associations_of}
 use Rattle.pm_laws.proofs.Live.{classes-live}
 use Rattle.pm_admin.proofs.Granting.{table-live, bars-live}
 use Rattle.pm_admin.proofs.Reasons.{reason-is, verdict-placed}
 use Rattle.pm_admin.proofs.denials.reason.Goals as goal
 
-pub decide-verdict-requires-clause-classes : goal.decide-verdict-requires-clause-classes
-decide-verdict-requires-clause-classes g c =
-    rw (c.requires.reach, c.classes-classes.ensures) (classes-live c.args.graph.now c.formed.ensures)
-
-pub decide-verdict-requires-clause-grants : goal.decide-verdict-requires-clause-grants
-decide-verdict-requires-clause-grants g c =
-    rw (c.requires.reach)
-    (table-live c.args.graph.now _ c.assoc-assoc.result.now c.formed.ensures c.kept.ensures c.assoc-assoc.ensures)
+pub decide-verdict-requires-clause-asked : goal.decide-verdict-requires-clause-asked
+decide-verdict-requires-clause-asked g c = rw (c.requires.reach) (record {
+  user = c.requires.user;
+  element = c.requires.element;
+  classes = rw (c.classes-classes.ensures) (classes-live c.args.graph.now c.formed.ensures);
+  grants = table-live c.args.graph.now _ c.assoc-assoc.result.now c.formed.ensures c.kept.ensures c.assoc-assoc.ensures;
+})
 
 pub decide-verdict-requires-clause-bars : goal.decide-verdict-requires-clause-bars
 decide-verdict-requires-clause-bars g c =
@@ -23,12 +22,11 @@ pub reason_by-requires : goal.reason_by-requires
 reason_by-requires g c =
     let G = c.args.graph.now in
     rw (c.decide-verdict.ensures.answer, c.requires.reach)
-    (verdict-placed (contained G.assigned) c.deny-deny.result.now c.args.user c.args.process c.args.right c.args.element
-    (lacking (contained G.assigned) (associations_of c.assoc-assoc.result.now) c.classes-classes.result.now c.args.user c.args.right c.args.element))
+    (verdict-placed (contained G.assigned) (associations_of c.assoc-assoc.result.now) c.deny-deny.result.now c.classes-classes.result.now
+    c.args.user c.args.process c.args.right c.args.element)
 
 pub returns-clause-answer : goal.returns-clause-answer
 returns-clause-answer g c =
     let G = c.args.graph.now in
     rw (c.reason_by.ensures, c.decide-verdict.ensures.answer, c.requires.reach, c.assoc-assoc.ensures, c.deny-deny.ensures, c.classes-classes.ensures)
-    (reason-is (contained G.assigned) G.prohibitions c.args.user c.args.process c.args.right c.args.element
-    (lacking_in G c.args.user c.args.right c.args.element))
+    (reason-is (contained G.assigned) G.associations G.prohibitions (classes_in G.elements) c.args.user c.args.process c.args.right c.args.element)

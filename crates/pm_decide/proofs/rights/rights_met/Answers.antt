@@ -15,8 +15,8 @@ loop-i-preserved g c =
     record {
       same = c.rights_by-more.ensures.same ∙ c.loop-i.invariant.same;
       joining = rw c.union-rights.ensures (joining-more c.loop-i.rights c.rights_by-more.result
-          (λ r. is_met below (of_grantee c.at.result.now) c.args.user r c.args.element c.args.class)
+          (λ r. is_met below (of_grantee c.grantee.result.now) c.args.user r c.args.element c.args.class)
           (test (drop (i + 1) all)) (test (drop i all)) (test all)
           c.loop-i.invariant.joining (rw c.loop-i.invariant.same at c.rights_by-more.ensures.answer)
-          (λ r. is_met-drop below c.args.user r c.args.element c.args.class all i c.at.result.now c.at.ensures));
+          (λ r. is_met-drop below c.args.user r c.args.element c.args.class all i c.grantee.result.now c.grantee.ensures));
     }
