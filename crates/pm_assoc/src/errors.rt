@@ -4,17 +4,18 @@ ghost use Rattle.std.specs.Prelude.{◌≡◌};
 ghost use Rattle.pm_assoc.specs.Told.{told};
 
 use pm_model::{ChangeError, Memory, Refusal, Table};
+use thiserror::Error;
 
 /// Why a call of the table was refused. The table is as before.
-#[derive(Clone, Copy, Debug, PartialEq, Eq)]
+#[derive(Clone, Copy, Debug, PartialEq, Eq, Error)]
 pub enum AssocError {
-    /// The user attribute has an association on the same element.
+    #[error("the user attribute has an association on the element")]
     Already,
-    /// The user attribute has no association on the element.
+    #[error("the user attribute has no association on the element")]
     Absent,
-    /// There are 65,536 associations.
+    #[error("there are 65,536 associations")]
     Full,
-    /// There was no memory.
+    #[error("out of memory")]
     Memory,
 }
 

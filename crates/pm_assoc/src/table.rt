@@ -122,11 +122,11 @@ impl Assoc {
 impl Grants for Assoc {
     ghost grantees = { λ t. t };
 
-    fn len(&self) -> usize {
+    fn grantee_count(&self) -> usize {
         self.grantees.len()
     }
 
-    fn at(&self, i: usize) -> &Grantee {
+    fn grantee(&self, i: usize) -> &Grantee {
         &self.grantees[i]
     }
 }

@@ -20,8 +20,8 @@ fn table_of(alloc: Global, rows: &[Row]) -> Result<Assoc, AssocError> {
 /// The associations in the table's order.
 fn rows_of(alloc: Global, table: &Assoc) -> Result<Vec<Row>, Memory> {
     let mut rows = Vec::new(alloc);
-    for i in 0..Grants::len(table) {
-        let grantee = table.at(i);
+    for i in 0..table.grantee_count() {
+        let grantee = table.grantee(i);
         for grant in grantee.grants.as_slice() {
             rows.push((grantee.ua.number(), grant.rights.0, grant.at.number()))?;
         }

@@ -1,31 +1,24 @@
+//! The errors of the table.
+
 ghost use Rattle.std.specs.Prelude.{◌≡◌};
 ghost use Rattle.pm_deny.specs.Told.{told};
 
-use pm_model::{ChangeError, Memory, Refusal, Table};
+use pm_model::{ChangeError, Refusal, Table};
+use thiserror::Error;
 
-/// Why a call of the list was refused. The list is as before.
-#[derive(Clone, Copy, Debug, PartialEq, Eq)]
+/// Why a call of the table was refused. The table is as before.
+#[derive(Clone, Copy, Debug, PartialEq, Eq, Error)]
 pub enum DenyError {
-    /// A prohibition has the name.
+    #[error("a prohibition has the name")]
     NameTaken,
-    /// Neither set of the prohibition has an element.
+    #[error("neither set of the prohibition has an element")]
     EmptyRange,
-    /// There are 4,096 prohibitions.
+    #[error("there are 4,096 prohibitions")]
     Full,
-    /// No prohibition has the name.
+    #[error("no prohibition has the name")]
     Absent,
-    /// There was no memory.
+    #[error("out of memory")]
     Memory,
-}
-
-impl From<Memory> for DenyError {
-    ghost use Rattle.pm_deny.specs.declared.errors.DenyError.{DenyError};
-
-    ghost from_gives = { λ _ e. e ≡ DenyError.Memory };
-
-    fn from(_none: Memory) -> DenyError {
-        DenyError::Memory
-    }
 }
 
 /// The error as a change tells it.

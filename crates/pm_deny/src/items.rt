@@ -1,6 +1,6 @@
 //! What is asked of one prohibition, and a list of them copied or thinned out.
 
-ghost use Rattle.std.specs.Prelude.{◌≡◌, ◌==◌, ◌||◌, IfOk, IfSome, OnOk, OnErr, ◌++◌, ◌∷◌, ◌<◌, ◌≤◌, [], length};
+ghost use Rattle.std.specs.Prelude.{◌≡◌, ◌==◌, ◌||◌, IfOk, IfSome, ◌<◌, ◌≤◌, length};
 ghost use Rattle.std.specs.List.{list_any};
 ghost use Rattle.pm_model.specs.Prohibitions.{is_called, place_called, has_empty_range, is_process_in, is_subject, names_element, without_processes};
 
@@ -97,15 +97,6 @@ pub(crate) fn drop_processes(items: &mut Vec<Prohibition>, ended: &[u32])
     ensures fewer { length items.new.items ≤ length items.old.items }
 {
     items.retain(|item| !is_process_in(ended, item.subject));
-}
-
-/// Puts a prohibition behind the others.
-pub(crate) fn add(items: &mut Vec<Prohibition>, item: Prohibition) -> Result<(), Memory>
-    ensures ok { OnOk result (items.new.items ≡ items.old.items ++ item ∷ []) }
-    ensures err { OnErr result (items.new.items ≡ items.old.items) }
-{
-    items.push(item)?;
-    Ok(())
 }
 
 /// The same prohibitions once more.

@@ -4,12 +4,12 @@ ghost use Rattle.std.specs.List.{list_any, remove};
 ghost use Rattle.pm_model.specs.Results.{first_of};
 ghost use Rattle.pm_model.specs.Decision.{first_applying};
 ghost use Rattle.pm_model.specs.Effect.{IsCause};
-ghost use Rattle.pm_model.specs.Prohibitions.{is_called, place_called, prohibit_checks, without_processes, names_element};
+ghost use Rattle.pm_model.specs.Prohibitions.{max_prohibitions, is_called, place_called, prohibit_checks, without_processes, names_element};
 ghost use Rattle.pm_decide.specs.Live.{IsLive, BarsLive};
 ghost use Rattle.pm_deny.specs.Told.{told};
 
 use crate::errors::DenyError;
-use crate::items::{add, copy_all, drop_processes, has_name, is_named, place};
+use crate::items::{copy_all, drop_processes, has_name, is_named, place};
 use pm_model::{Bars, ElementId, Memory, Name, Prohibition, Reach};
 use std::alloc::Global;
 use std::marker::Model;
@@ -22,13 +22,14 @@ pub struct Deny {
 
 impl Model for Deny {
     ghost use Rattle.std.specs.Prelude.{List, length, ◌≤◌};
+    ghost use Rattle.pm_model.specs.Prohibitions.{max_prohibitions};
     ghost use Rattle.pm_model.specs.declared.prohibitions.Prohibition.{Prohibition};
 
     ghost Value = { List Prohibition };
 
     ghost view = { λ t. t.items.items };
 
-    ghost invariant = { λ t. length t.items.items ≤ 4096 };
+    ghost invariant = { λ t. length t.items.items ≤ max_prohibitions };
 }
 
 impl Deny {
@@ -43,7 +44,7 @@ impl Deny {
 
     /// What each list keeps: there are at most 4,096 prohibitions.
     pub fn few(&self)
-        ensures { length self.now ≤ 4096 }
+        ensures { length self.now ≤ max_prohibitions }
     {
         let _ = &self.items;
     }
@@ -57,8 +58,7 @@ impl Deny {
         ensures err { OnErr result (self.new ≡ self.old) }
     {
         self.check_prohibit(&item)?;
-        add(&mut self.items, item)?;
-        Ok(())
+        self.items.push(item).map_err(|_| DenyError::Memory)
     }
 
     /// Takes the prohibition of the name away and gives it. `Absent` comes where none has the name,

@@ -46,7 +46,10 @@ fn item_of(rt: &(impl Abort + Alloc<A = Global>), row: &Row) -> Result<Prohibiti
 fn list_of(rt: &(impl Abort + Alloc<A = Global>), rows: &[Row]) -> Result<Deny, DenyError> {
     let mut list = Deny::new(rt.alloc());
     for row in rows {
-        list.prohibit(item_of(rt, row)?)?;
+        let Ok(item) = item_of(rt, row) else {
+            return Err(DenyError::Memory);
+        };
+        list.prohibit(item)?;
     }
     Ok(list)
 }

@@ -1,10 +1,10 @@
 -- The table is kept where an element is made.
-use Rattle.std.proofs.Common.{◌≡◌, ℕ, ◌+◌, ◌<◌, ◌≤◌, true, false, List, [], ◌∷◌, length, length-append, length-set, eqb, Option, Some, None, is_some, IsSome, IfSome, option_map, bytes_eq, refl, sym, ap, ◌∙◌, arith, inl, inr}
+use Rattle.std.proofs.Common.{◌≡◌, ℕ, ◌+◌, ◌<◌, ◌≤◌, false, List, [], ◌∷◌, length, length-append, length-set, eqb, Option, Some, None, is_some, IsSome, IfSome, option_map, bytes_eq, refl, sym, ap, ◌∙◌, arith, inl, inr}
 use Rattle.std.specs.Map.{lookup}
 use Rattle.std.specs.List.{list_any}
 use Rattle.std.proofs.lemmas.Bool.{cases_eq, false≢true, cases_lt}
 use Rattle.pm_model.specs.State.{is_named, number_named}
-use Rattle.pm_model.specs.Effect.{placed, with_pair}
+use Rattle.pm_model.specs.Effect.{max_elements, max_assignments, placed, with_pair}
 use Rattle.pm_model.specs.Formed.{IsLive}
 use Rattle.pm_model.specs.declared.elements.Element.{Element}
 use Rattle.pm_model.specs.declared.elements.Kind.{Kind}
@@ -37,7 +37,7 @@ Held-placed slots pairs kind name h = record {
   s : Slot
   s = new_slot kind name None
 
-length-with_slot : (slots : List (Option Slot)) (s : Slot) → length slots ≤ 16384 → length (shown slots) < 16384 → length (with_slot (first_free slots) s slots) ≤ 16384
+length-with_slot : (slots : List (Option Slot)) (s : Slot) → length slots ≤ max_elements → length (shown slots) < max_elements → length (with_slot (first_free slots) s slots) ≤ max_elements
 length-with_slot slots s few room = elim (cases_lt (first_free slots) (length slots)) [
   | inl below ↦ rw (set_slot slots (first_free slots) s below) (omega (arith, length-set slots (first_free slots) (Some s)))
   | inr above ↦ rw (push_slot slots (first_free slots) s above) (omega (arith, length-append slots (Some s ∷ []), none_free slots above))
@@ -51,7 +51,7 @@ free_name es names name h free = go (number_named es name) refl where
   go (Some n) is = absurd (false≢true (sym free ∙ any_named name es ∙ ap is_some is))
 
 Kept-placed : (slots : List (Option Slot)) (pairs : List (ℕ × ℕ)) (names names' : List (List ℕ × ℕ)) (live : ℕ) (kind : Kind) (name : List ℕ) → Kept slots pairs names live
-    → list_any (is_named name) (shown slots) ≡ false → length (shown slots) < 16384 → Renames name (Some (first_free slots)) names names'
+    → list_any (is_named name) (shown slots) ≡ false → length (shown slots) < max_elements → Renames name (Some (first_free slots)) names names'
     → Kept (with_slot (first_free slots) (new_slot kind name None) slots) pairs names' (live + 1)
 Kept-placed slots pairs names names' live kind name h free room changed =
     let n = first_free slots in
@@ -83,7 +83,7 @@ shown-created slots kind name (Some y) =
     ∙ shown-placed slots (new_slot kind name (Some y))
 
 pub Kept-created : (slots : List (Option Slot)) (pairs : List (ℕ × ℕ)) (names names' : List (List ℕ × ℕ)) (live : ℕ) (kind : Kind) (name : List ℕ) (into : Option ℕ) → Kept slots pairs names live
-    → IfSome into (λ y. IsSome (slot_at slots y)) → list_any (is_named name) (shown slots) ≡ false → length (shown slots) < 16384 → IfSome into (λ y. length pairs < 131072)
+    → IfSome into (λ y. IsSome (slot_at slots y)) → list_any (is_named name) (shown slots) ≡ false → length (shown slots) < max_elements → IfSome into (λ y. length pairs < max_assignments)
     → Renames name (Some (first_free slots)) names names' → Kept (created kind name into slots) (with_pair into (first_free slots) pairs) names' (live + 1)
 Kept-created slots pairs names names' live kind name None h into_live free room pairs_room changed = Kept-placed slots pairs names names' live kind name h free room changed
 Kept-created slots pairs names names' live kind name (Some y) h into_live free room pairs_room changed =
@@ -101,6 +101,6 @@ pub live_into : (slots : List (Option Slot)) (into : Option ℕ) → IfSome into
 live_into slots None h = tt
 live_into slots (Some y) h = slot_taken slots y h
 
-pub few_into : (slots : List (Option Slot)) (pairs : List (ℕ × ℕ)) (into : Option ℕ) → Held slots pairs → length pairs ≤ 131072 → IfSome into (λ y. children_of (slot_at slots y) < 4294967295)
+pub few_into : (slots : List (Option Slot)) (pairs : List (ℕ × ℕ)) (into : Option ℕ) → Held slots pairs → length pairs ≤ max_assignments → IfSome into (λ y. children_of (slot_at slots y) < 4294967295)
 few_into slots pairs None h few = tt
 few_into slots pairs (Some y) h few = omega (arith, h.children y, count_few pairs y)

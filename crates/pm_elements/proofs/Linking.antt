@@ -7,7 +7,7 @@ use Rattle.std.proofs.lemmas.List.Elements.{filter-append}
 use Rattle.pm_laws.proofs.Items.{length-filter}
 use Rattle.pm_laws.proofs.Pairs.{once-push, once-filter, pair-is}
 use Rattle.pm_model.specs.Containment.{containers}
-use Rattle.pm_model.specs.Effect.{is_pair, is_to}
+use Rattle.pm_model.specs.Effect.{max_assignments, is_pair, is_to}
 use Rattle.pm_model.specs.Formed.{StandOnce}
 use Rattle.pm_elements.specs.declared.slots.Slot.{Slot}
 use Rattle.pm_model.specs.declared.elements.Element.{Element}
@@ -84,7 +84,7 @@ shown-linked x y slots =
     ∙ shown-edited (with_parent y) (λ n s. refl) 0 x slots
 
 pub Kept-linked : (slots : List (Option Slot)) (pairs : List (ℕ × ℕ)) (names : List (List ℕ × ℕ)) (live x y : ℕ) → Kept slots pairs names live
-    → is_some (slot_at slots x) ≡ true → is_some (slot_at slots y) ≡ true → list_any (is_pair x y) pairs ≡ false → length pairs < 131072
+    → is_some (slot_at slots x) ≡ true → is_some (slot_at slots y) ≡ true → list_any (is_pair x y) pairs ≡ false → length pairs < max_assignments
     → Kept (linked x y slots) (pairs ++ (x, y) ∷ []) names live
 Kept-linked slots pairs names live x y h x_in y_in free room = record {
   held = Held-linked slots pairs x y x_in y_in h.held;

@@ -7,7 +7,7 @@ use Rattle.pm_model.specs.Formed.{Each, StandOnce}
 use Rattle.pm_model.specs.declared.elements.Element.{Element}
 use Rattle.pm_elements.specs.declared.slots.Slot.{Slot}
 use Rattle.pm_elements.specs.declared.table.Elements.TheInside.{Inside}
-use Rattle.pm_model.specs.Effect.{is_to}
+use Rattle.pm_model.specs.Effect.{max_elements, max_assignments, is_to}
 use Rattle.pm_elements.specs.Listed.{Listed}
 use Rattle.pm_elements.specs.Slots.{shown, slot_at, parents_of, children_of}
 
@@ -33,8 +33,8 @@ pub record Kept (slots : List (Option Slot)) (pairs : List (ℕ × ℕ)) (names 
   pub named : Named (shown slots) names
   pub once : StandOnce pairs
   pub counted : live ≡ length (shown slots)
-  pub few : length slots ≤ 16384
-  pub few_pairs : length pairs ≤ 131072
+  pub few : length slots ≤ max_elements
+  pub few_pairs : length pairs ≤ max_assignments
 
 abbrev pub IsKept : Inside → Type 0
 IsKept t = Kept t.slots.items t.pairs.items t.names.entries t.live

@@ -7,33 +7,26 @@ use pm_model::{ChangeError, ElementId, Memory, Refusal, Table};
 use thiserror::Error;
 
 /// Why a call of the table was refused. The table is as before.
-#[derive(Debug, PartialEq, Drop, Error)]
+#[derive(Clone, Copy, Debug, PartialEq, Eq, Error)]
 pub enum ElementsError {
-    /// The kinds of the elements don't allow it.
-    #[error("the kinds don't allow it")]
+    #[error("the kinds of the elements don't allow it")]
     BadKinds,
-    /// A live element has the name.
-    #[error("the name is taken")]
+    #[error("a live element has the name")]
     NameTaken,
-    /// The assignment stands.
     #[error("the assignment stands")]
     Already,
-    /// The assignment doesn't stand.
     #[error("the assignment doesn't stand")]
     Absent,
-    /// The container, `to`, is contained in `from`.
-    #[error("the assignment would close a cycle")]
+    /// Of the assignment of `from` to the container `to`.
+    #[error("the container is contained in the element")]
     Cycle { from: ElementId, to: ElementId },
-    /// Something is assigned to the element.
     #[error("something is assigned to the element")]
     Occupied,
-    /// It is the element's only container.
-    #[error("it is the only container")]
+    #[error("it is the element's only container")]
     LastContainer,
-    /// The count stands at its limit: 16,384 elements, 131,072 assignments.
-    #[error("the count stands at its limit")]
+    /// At 16,384 elements, or 131,072 assignments.
+    #[error("the table is full")]
     Full(Table),
-    /// There was no memory.
     #[error("out of memory")]
     Memory,
 }

@@ -1,7 +1,7 @@
 //! A new element takes the least number that is free.
 
 ghost use Rattle.std.specs.Prelude.{◌≡◌, ◌≤◌, ◌<◌, ◌^◌, ◌-◌, [], ◌∷◌, ◌++◌, Some, IsSome, IfSome, OnOk, OnErr, IfOk, length, vec_len, vec_capacity};
-ghost use Rattle.pm_model.specs.Effect.{with_pair};
+ghost use Rattle.pm_model.specs.Effect.{max_elements, with_pair};
 ghost use Rattle.indexmap.specs.IndexMap.{spare};
 ghost use Rattle.pm_elements.specs.Kept.{Renames};
 ghost use Rattle.pm_elements.specs.Slots.{shown, slot_at, children_of, first_free, with_slot, new_slot, joined};
@@ -38,7 +38,7 @@ fn first_free(slots: &Vec<Option<Slot>>) -> usize
 #[tactic(auto, using(crate::proofs::Placing::all_taken))]
 pub(crate) fn least_free(slots: &Vec<Option<Slot>>, live: usize) -> ElementId
     requires counted { live ≡ length (shown slots.now.items) }
-    requires few { vec_len slots.now ≤ 16384 }
+    requires few { vec_len slots.now ≤ max_elements }
     ensures { result ≡ first_free slots.now.items }
 {
     if live == slots.len() {

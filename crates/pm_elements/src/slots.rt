@@ -3,6 +3,7 @@
 ghost use Rattle.std.specs.Prelude.{◌≡◌, ◌==◌, Some, None, IsSome, IfOk, OnOk, OnErr, is_some, option_map, length, vec_len, ◌≤◌};
 ghost use Rattle.std.specs.List.{list_any};
 ghost use Rattle.pm_model.specs.State.{element_at};
+ghost use Rattle.pm_model.specs.Effect.{max_elements};
 ghost use Rattle.pm_model.specs.Formed.{IsLive};
 ghost use Rattle.pm_elements.specs.Checks.{least_from};
 ghost use Rattle.pm_elements.specs.Slots.{slot_at, shown, parents_of, children_of};
@@ -62,7 +63,7 @@ pub(crate) fn child_count(slots: &Vec<Option<Slot>>, y: ElementId) -> u32
 /// The least live number that is at least `from`.
 #[tactic(auto, using(crate::proofs::Nexts::next_here, crate::proofs::Nexts::next_later, crate::proofs::Nexts::next_none))]
 pub(crate) fn next_taken(slots: &Vec<Option<Slot>>, from: u32) -> Option<ElementId>
-    requires { vec_len slots.now ≤ 16384 }
+    requires { vec_len slots.now ≤ max_elements }
     ensures { result ≡ least_from (shown slots.now.items) from }
 {
     for n in from as usize..slots.len() {

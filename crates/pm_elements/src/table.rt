@@ -3,7 +3,7 @@
 ghost use Rattle.std.specs.Prelude.{◌≡◌, ◌≢◌, [], ◌∷◌, ◌++◌, ◌<◌, true, false, None, Some, OnOk, OnErr, IfOk, IfErr, IfSome, is_some, option_map, length, filter, not};
 ghost use Rattle.std.specs.List.{list_any};
 ghost use Rattle.pm_model.specs.Containment.{contained};
-ghost use Rattle.pm_model.specs.Effect.{may_create, may_assign, both, is_pair, is_from, placed, with_pair, create_checks, assign_checks, deassign_checks, IsCause, has_child};
+ghost use Rattle.pm_model.specs.Effect.{max_elements, max_assignments, may_create, may_assign, both, is_pair, is_from, placed, with_pair, create_checks, assign_checks, deassign_checks, IsCause, has_child};
 ghost use Rattle.pm_model.specs.Name.{is_name};
 ghost use Rattle.pm_model.specs.Resolve.{unused};
 ghost use Rattle.pm_model.specs.Results.{first_of};
@@ -188,8 +188,8 @@ impl Elements {
     fn put_new(&mut self, new: &NewElement) -> Result<ElementId, Memory>
         requires into_live { IfSome new.now.into (IsLive self.old.elements) }
         requires free { list_any (is_named new.now.name) self.old.elements ≡ false }
-        requires few { length self.old.elements < 16384 }
-        requires few_pairs { IfSome new.now.into (λ y. length self.old.assigned < 131072) }
+        requires few { length self.old.elements < max_elements }
+        requires few_pairs { IfSome new.now.into (λ y. length self.old.assigned < max_assignments) }
         ensures number { IfOk result (λ n. n ≡ unused self.old.elements) }
         ensures elements { OnOk result (self.new.elements ≡ placed (element (unused self.old.elements) new.now.kind new.now.name) self.old.elements) }
         ensures assigned { OnOk result (self.new.assigned ≡ with_pair new.now.into (unused self.old.elements) self.old.assigned) }

@@ -1,6 +1,7 @@
 -- A history as callers see it, and how it is kept.
 use Rattle.std.specs.Prelude.{◌≤◌, ℕ, List, map, length}
 use Rattle.std.specs.Arc.{arc_value}
+use Rattle.pm_model.specs.Answer.{longest_history}
 use Rattle.pm_model.specs.declared.requests.Entry.{Entry}
 use Rattle.pm_history.specs.declared.History.TheInside.{Inside}
 
@@ -14,4 +15,4 @@ limited_of h = record { entries = map arc_value h.entries.items; limit = h.limit
 
 pub record IsKept (h : Inside) : Type 0 where
   pub within : length h.entries.items ≤ h.limit
-  pub most : h.limit ≤ 262144
+  pub most : h.limit ≤ longest_history

@@ -4,21 +4,23 @@
 ghost use Rattle.std.specs.Prelude.{◌≡◌, ◌≤◌, ◌<◌, [], ◌∷◌, ◌++◌, OnOk, OnErr, IfErr, IfOk, length, slice_get, map, take, ◌-◌};
 ghost use Rattle.std.specs.Arc.{arc_value};
 ghost use Rattle.std.specs.Option.{option_copied};
+ghost use Rattle.pm_model.specs.Answer.{longest_history};
 
 use pm_model::{Entry, Memory};
 use std::alloc::Global;
 use std::marker::Model;
 use std::sync::Arc;
+use thiserror::Error;
 
 #[cfg(test)]
 mod tests;
 
 /// Why an entry was not put into the history. The history is as before, and the entry is dropped.
-#[derive(Clone, Copy, Debug, PartialEq, Eq)]
+#[derive(Clone, Copy, Debug, PartialEq, Eq, Error)]
 pub enum HistoryError {
-    /// The history has as many entries as its limit says.
+    #[error("there are as many entries as the limit says")]
     Full,
-    /// There was no memory.
+    #[error("out of memory")]
     Memory,
 }
 
@@ -55,7 +57,7 @@ impl History {
     /// The empty history, which may have this many entries. It takes no memory: the places grow with
     /// the entries.
     pub fn new(alloc: Global, limit: u64) -> History
-        requires { limit ≤ 262144 }
+        requires { limit ≤ longest_history }
         ensures { result ≡ record { entries = []; limit = limit } }
     {
         History {
@@ -75,7 +77,7 @@ impl History {
     /// How many entries it may have.
     pub fn limit(&self) -> u64
         ensures value { result ≡ self.now.limit }
-        ensures most { result ≤ 262144 }
+        ensures most { result ≤ longest_history }
     {
         self.limit
     }

@@ -4,7 +4,8 @@ ghost use Rattle.std.specs.Prelude.{◌≡◌, ◌≢◌, None, OnOk, IfErr};
 ghost use Rattle.pm_model.specs.Effect.{IsCause};
 ghost use Rattle.pm_model.specs.Results.{first_of};
 ghost use Rattle.pm_model.specs.Sessions.{open_checks, close_checks, start_checks, end_checks};
-ghost use Rattle.pm_procs.specs.Told.{told_session, told_process};
+ghost use Rattle.pm_model.specs.declared.replies.Refusal.TheVariants.{UnknownSession, UnknownProcess};
+ghost use Rattle.pm_procs.specs.Told.{told};
 
 use crate::errors::ProcsError;
 use crate::table::Procs;
@@ -18,7 +19,7 @@ impl Procs {
     /// Whether a session could be opened: `Full` where there are 4,096.
     pub fn check_open(&self) -> Result<(), ProcsError>
         ensures fits { OnOk result (first_of (open_checks self.now) ≡ None) }
-        ensures refused { IfErr result (λ e. IsCause (first_of (open_checks self.now)) (told_session e)) }
+        ensures refused { IfErr result (λ e. IsCause (first_of (open_checks self.now)) (told UnknownSession e)) }
         ensures no_memory { IfErr result (λ e. e ≢ ProcsError.Memory) }
     {
         if self.session_count() >= MAX_SESSIONS {
@@ -31,7 +32,7 @@ impl Procs {
     /// live.
     pub fn check_close(&self, session: u32) -> Result<(), ProcsError>
         ensures fits { OnOk result (first_of (close_checks self.now session) ≡ None) }
-        ensures refused { IfErr result (λ e. IsCause (first_of (close_checks self.now session)) (told_session e)) }
+        ensures refused { IfErr result (λ e. IsCause (first_of (close_checks self.now session)) (told UnknownSession e)) }
         ensures no_memory { IfErr result (λ e. e ≢ ProcsError.Memory) }
     {
         if session == 0 {
@@ -47,7 +48,7 @@ impl Procs {
     /// `Full` where there are 16,384 processes.
     pub fn check_start(&self, session: u32) -> Result<(), ProcsError>
         ensures fits { OnOk result (first_of (start_checks self.now session) ≡ None) }
-        ensures refused { IfErr result (λ e. IsCause (first_of (start_checks self.now session)) (told_session e)) }
+        ensures refused { IfErr result (λ e. IsCause (first_of (start_checks self.now session)) (told UnknownSession e)) }
         ensures no_memory { IfErr result (λ e. e ≢ ProcsError.Memory) }
     {
         if !self.session_live(session) {
@@ -63,7 +64,7 @@ impl Procs {
     /// live.
     pub fn check_end(&self, process: u32) -> Result<(), ProcsError>
         ensures fits { OnOk result (first_of (end_checks self.now process) ≡ None) }
-        ensures refused { IfErr result (λ e. IsCause (first_of (end_checks self.now process)) (told_process e)) }
+        ensures refused { IfErr result (λ e. IsCause (first_of (end_checks self.now process)) (told UnknownProcess e)) }
         ensures no_memory { IfErr result (λ e. e ≢ ProcsError.Memory) }
     {
         if process == 0 {

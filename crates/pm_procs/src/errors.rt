@@ -1,20 +1,22 @@
 //! The errors of the table.
 
 ghost use Rattle.std.specs.Prelude.{◌≡◌};
-ghost use Rattle.pm_procs.specs.Told.{told_session, told_process};
+ghost use Rattle.pm_procs.specs.Told.{told};
 
 use pm_model::{ChangeError, Memory, Refusal, Table};
+use thiserror::Error;
 
 /// Why a call of the table was refused. The table is as before.
-#[derive(Clone, Copy, Debug, PartialEq, Eq)]
+#[derive(Clone, Copy, Debug, PartialEq, Eq, Error)]
 pub enum ProcsError {
-    /// This table is full: there are 4,096 sessions, or 16,384 processes.
+    /// At 4,096 sessions, or 16,384 processes.
+    #[error("the table is full")]
     Full(Table),
-    /// No live session, or no live process, has the number.
+    #[error("no live session or process has the number")]
     Absent,
-    /// It is session 0, or process 0, which stand from the opening on and stay.
+    #[error("session 0 and process 0 stay")]
     Builtin,
-    /// There was no memory.
+    #[error("out of memory")]
     Memory,
 }
 
@@ -28,26 +30,13 @@ impl From<Memory> for ProcsError {
     }
 }
 
-/// The error as a change of sessions tells it, and one that starts a process: what is absent is a
-/// session.
-pub fn session_error(error: ProcsError) -> ChangeError
-    ensures { result ≡ told_session error }
+/// The error as a change tells it, with this refusal where it is `Absent`.
+pub fn change_error(error: ProcsError, missing: Refusal) -> ChangeError
+    ensures { result ≡ told missing error }
 {
     match error {
         ProcsError::Full(table) => ChangeError::Refused(Refusal::Full(table)),
-        ProcsError::Absent => ChangeError::Refused(Refusal::UnknownSession),
-        ProcsError::Builtin => ChangeError::Refused(Refusal::Builtin),
-        ProcsError::Memory => ChangeError::Memory,
-    }
-}
-
-/// The error as a change that ends a process tells it: what is absent is a process.
-pub fn process_error(error: ProcsError) -> ChangeError
-    ensures { result ≡ told_process error }
-{
-    match error {
-        ProcsError::Full(table) => ChangeError::Refused(Refusal::Full(table)),
-        ProcsError::Absent => ChangeError::Refused(Refusal::UnknownProcess),
+        ProcsError::Absent => ChangeError::Refused(missing),
         ProcsError::Builtin => ChangeError::Refused(Refusal::Builtin),
         ProcsError::Memory => ChangeError::Memory,
     }

@@ -6,7 +6,7 @@ mod errors;
 mod numbered;
 mod table;
 
-pub use errors::{ProcsError, process_error, session_error};
+pub use errors::{ProcsError, change_error};
 pub use table::Procs;
 
 #[cfg(test)]

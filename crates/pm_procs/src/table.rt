@@ -7,7 +7,8 @@ ghost use Rattle.pm_model.specs.Formed.{AreNumbered, HasNext};
 ghost use Rattle.pm_model.specs.Results.{first_of};
 ghost use Rattle.pm_model.specs.Sessions.{is_session, is_session_of, is_process, user_of, processes_of, opening_procs, open_checks, close_checks, start_checks, end_checks, with_session, without_session, with_process, without_process};
 ghost use Rattle.pm_model.specs.State.{root};
-ghost use Rattle.pm_procs.specs.Told.{told_session, told_process};
+ghost use Rattle.pm_model.specs.declared.replies.Refusal.TheVariants.{UnknownSession, UnknownProcess};
+ghost use Rattle.pm_procs.specs.Told.{told};
 
 use crate::errors::ProcsError;
 use crate::numbered::{append, find, place, remove};
@@ -77,7 +78,7 @@ impl Procs {
         ensures fits { OnOk result (first_of (open_checks self.old) ≡ None) }
         ensures ok { OnOk result (self.new ≡ with_session user self.old) }
         ensures number { IfOk result (λ n. n ≡ self.old.next_session) }
-        ensures refused { IfErr result (λ e. IsCause (first_of (open_checks self.old)) (told_session e)) }
+        ensures refused { IfErr result (λ e. IsCause (first_of (open_checks self.old)) (told UnknownSession e)) }
         ensures err { OnErr result (self.new ≡ self.old) }
     {
         self.check_open()?;
@@ -93,7 +94,7 @@ impl Procs {
     pub fn close_session(&mut self, session: u32) -> Result<(), ProcsError>
         ensures fits { OnOk result (first_of (close_checks self.old session) ≡ None) }
         ensures ok { OnOk result (self.new ≡ without_session session self.old) }
-        ensures refused { IfErr result (λ e. IsCause (first_of (close_checks self.old session)) (told_session e)) }
+        ensures refused { IfErr result (λ e. IsCause (first_of (close_checks self.old session)) (told UnknownSession e)) }
         ensures no_memory { IfErr result (λ e. e ≢ ProcsError.Memory) }
         ensures err { OnErr result (self.new ≡ self.old) }
     {
@@ -110,7 +111,7 @@ impl Procs {
         ensures fits { OnOk result (first_of (start_checks self.old session) ≡ None) }
         ensures ok { OnOk result (self.new ≡ with_process session self.old) }
         ensures number { IfOk result (λ n. n ≡ self.old.next_process) }
-        ensures refused { IfErr result (λ e. IsCause (first_of (start_checks self.old session)) (told_session e)) }
+        ensures refused { IfErr result (λ e. IsCause (first_of (start_checks self.old session)) (told UnknownSession e)) }
         ensures err { OnErr result (self.new ≡ self.old) }
     {
         self.check_start(session)?;
@@ -125,7 +126,7 @@ impl Procs {
     pub fn end_process(&mut self, process: u32) -> Result<(), ProcsError>
         ensures fits { OnOk result (first_of (end_checks self.old process) ≡ None) }
         ensures ok { OnOk result (self.new ≡ without_process process self.old) }
-        ensures refused { IfErr result (λ e. IsCause (first_of (end_checks self.old process)) (told_process e)) }
+        ensures refused { IfErr result (λ e. IsCause (first_of (end_checks self.old process)) (told UnknownProcess e)) }
         ensures no_memory { IfErr result (λ e. e ≢ ProcsError.Memory) }
         ensures err { OnErr result (self.new ≡ self.old) }
     {

@@ -165,15 +165,13 @@ fn a_copy_is_another_table(rt: HostRuntime) -> Result<(), Fail> {
 
 #[test]
 fn errors_are_told_as_refusals(rt: HostRuntime) {
-    let session = session_error(ProcsError::Absent);
+    let session = change_error(ProcsError::Absent, Refusal::UnknownSession);
     assert!(rt; matches!(session, ChangeError::Refused(Refusal::UnknownSession)));
-    let process = process_error(ProcsError::Absent);
-    assert!(rt; matches!(process, ChangeError::Refused(Refusal::UnknownProcess)));
-    let full = session_error(ProcsError::Full(Table::Sessions));
+    let full = change_error(ProcsError::Full(Table::Sessions), Refusal::UnknownSession);
     assert!(rt; matches!(full, ChangeError::Refused(Refusal::Full(Table::Sessions))));
-    let builtin = process_error(ProcsError::Builtin);
+    let builtin = change_error(ProcsError::Builtin, Refusal::UnknownProcess);
     assert!(rt; matches!(builtin, ChangeError::Refused(Refusal::Builtin)));
-    let memory = session_error(ProcsError::Memory);
+    let memory = change_error(ProcsError::Memory, Refusal::UnknownProcess);
     assert!(rt; matches!(memory, ChangeError::Memory));
 }
 

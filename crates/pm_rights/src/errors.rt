@@ -3,27 +3,21 @@
 ghost use Rattle.std.specs.Prelude.{◌≡◌};
 ghost use Rattle.pm_rights.specs.Told.{told};
 
-use pm_model::{ChangeError, Memory, Refusal, Table};
+use pm_model::{ChangeError, Refusal, Table};
+use thiserror::Error;
 
 /// Why a right was not defined. The names are as before.
-#[derive(Clone, Copy, Debug, PartialEq, Eq)]
+#[derive(Clone, Copy, Debug, PartialEq, Eq, Error)]
 pub enum RightsError {
     /// A right has the name, or it is the word of a command.
+    #[error("the name is taken")]
     NameTaken,
     /// There are 64 rights.
+    #[error("there are 64 rights")]
     Full,
     /// There was no memory.
+    #[error("out of memory")]
     Memory,
-}
-
-impl From<Memory> for RightsError {
-    ghost use Rattle.pm_rights.specs.declared.errors.RightsError.{RightsError};
-
-    ghost from_gives = { λ _ e. e ≡ RightsError.Memory };
-
-    fn from(_none: Memory) -> RightsError {
-        RightsError::Memory
-    }
 }
 
 /// The error as a change tells it.

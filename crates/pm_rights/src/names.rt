@@ -52,10 +52,7 @@ impl RightNames {
         ensures err { OnErr result (self.new ≡ self.old) }
     {
         self.check_define(name)?;
-        match self.names.push(name) {
-            Ok(()) => Ok(()),
-            Err(_) => Err(RightsError::Memory),
-        }
+        self.names.push(name).map_err(|_| RightsError::Memory)
     }
 
     /// Whether a right of the name could be defined: `NameTaken` where a right has the name or it is

@@ -1,11 +1,12 @@
-//! Fixed texts: the names of rights from the opening on, and the words of commands.
+//! The names of rights from the opening on, and the words of commands.
 
 ghost use Rattle.std.specs.Prelude.{◌≡◌, true, IfOk, map, bytes_eq};
 ghost use Rattle.std.specs.List.{list_any, list_all};
 ghost use Rattle.pm_model.specs.Name.{is_name};
 ghost use Rattle.pm_model.specs.RightSet.{opening_rights, command_words};
+ghost use Rattle.pm_model.specs.Words.{word_text};
 
-use pm_model::{Memory, Name};
+use pm_model::{Memory, Name, Word};
 use std::alloc::Global;
 
 /// The names of the rights that stand from the opening on, by bit.
@@ -29,50 +30,50 @@ const OPENING_RIGHTS: [&str; 17] = [
     "review",
 ];
 
-/// The words of the commands, also of those that are yet to come.
-const COMMAND_WORDS: [&str; 28] = [
-    "version",
-    "open_session",
-    "close_session",
-    "start_process",
-    "end_process",
-    "create_pc",
-    "create_user",
-    "create_ua",
-    "create_oa",
-    "create_object",
-    "delete",
-    "assign",
-    "deassign",
-    "associate",
-    "dissociate",
-    "prohibit",
-    "lift",
-    "define_right",
-    "oblige",
-    "withdraw",
-    "keep",
-    "drop_review",
-    "access",
-    "caps",
-    "entries",
-    "kept",
-    "changes",
-    "survey",
+/// The commands, also those that are yet to come.
+const COMMANDS: [Word; 28] = [
+    Word::Version,
+    Word::OpenSession,
+    Word::CloseSession,
+    Word::StartProcess,
+    Word::EndProcess,
+    Word::CreatePc,
+    Word::CreateUser,
+    Word::CreateUa,
+    Word::CreateOa,
+    Word::CreateObject,
+    Word::Delete,
+    Word::Assign,
+    Word::Deassign,
+    Word::Associate,
+    Word::Dissociate,
+    Word::Prohibit,
+    Word::Lift,
+    Word::DefineRight,
+    Word::Oblige,
+    Word::Withdraw,
+    Word::Keep,
+    Word::DropReview,
+    Word::Access,
+    Word::Caps,
+    Word::Entries,
+    Word::Kept,
+    Word::Changes,
+    Word::Survey,
 ];
 
-/// Whether one of the texts has these bytes.
-fn is_any_of(texts: &[&str], bytes: &[u8]) -> bool
-    ensures { result ≡ list_any (λ text. bytes_eq bytes.now text.now) texts.now }
+/// Whether one of the words is spelt so.
+fn is_any_of(words: &[Word], bytes: &[u8]) -> bool
+    ensures { result ≡ list_any (λ word. bytes_eq bytes.now (word_text word)) words.now }
 {
-    texts.iter().any(|text| bytes == text.as_bytes())
+    words.iter().any(|word| bytes == word.text().as_bytes())
 }
 
 /// Whether these bytes are the word of a command.
 pub(crate) fn is_command_word(bytes: &[u8]) -> bool
     ensures { result ≡ list_any (bytes_eq bytes.now) command_words }
 {
-    is_any_of(&COMMAND_WORDS, bytes)
+    is_any_of(&COMMANDS, bytes)
 }
 
 /// The name of these bytes, which have a name's form.

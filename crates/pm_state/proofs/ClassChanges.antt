@@ -5,7 +5,7 @@ use Rattle.pm_model.specs.Effect.{effect, refusal, changed}
 use Rattle.pm_model.specs.Formed.{IsWellFormed}
 use Rattle.pm_model.specs.declared.elements.Element.{Element}
 use Rattle.pm_model.specs.declared.requests.Change.{Change}
-use Rattle.pm_model.specs.declared.requests.Change.TheVariants.{Create, Delete, Assign, Deassign, Associate, Dissociate, OpenSession, CloseSession, StartProcess, EndProcess, Prohibit, Lift, DefineRight}
+use Rattle.pm_model.specs.declared.requests.Change.TheVariants as change
 use Rattle.pm_laws.proofs.Checks.{unless-ok}
 use Rattle.pm_state.specs.Classes.{classes_after, without_number}
 use Rattle.pm_state.proofs.PlacedClasses.{classes-placed}
@@ -25,19 +25,19 @@ classes-without n (e ∷ es) = of (is_class e) (e.number == n) refl refl (classe
   of false false is at rest = rw (at, is) rest
 
 made-classes : (G : Graph) (c : Change) → IsWellFormed G → classes_in (changed G c).elements ≡ classes_after c (classes_in G.elements)
-made-classes G (Create id kind name into) f = classes-placed (element id kind name) G.elements 0 f.elements.rising
-made-classes G (Delete id) f = classes-without id G.elements
-made-classes G (Assign x y) f = refl
-made-classes G (Deassign x y) f = refl
-made-classes G (Associate u r t) f = refl
-made-classes G (Dissociate u t) f = refl
-made-classes G (OpenSession u) f = refl
-made-classes G (CloseSession n) f = refl
-made-classes G (StartProcess n) f = refl
-made-classes G (EndProcess n) f = refl
-made-classes G (Prohibit p) f = refl
-made-classes G (Lift i) f = refl
-made-classes G (DefineRight name) f = refl
+made-classes G (change.Create id kind name into) f = classes-placed (element id kind name) G.elements 0 f.elements.rising
+made-classes G (change.Delete id) f = classes-without id G.elements
+made-classes G (change.Assign x y) f = refl
+made-classes G (change.Deassign x y) f = refl
+made-classes G (change.Associate u r t) f = refl
+made-classes G (change.Dissociate u t) f = refl
+made-classes G (change.OpenSession u) f = refl
+made-classes G (change.CloseSession n) f = refl
+made-classes G (change.StartProcess n) f = refl
+made-classes G (change.EndProcess n) f = refl
+made-classes G (change.Prohibit p) f = refl
+made-classes G (change.Lift i) f = refl
+made-classes G (change.DefineRight name) f = refl
 
 -- the list that a change leaves is the classes of the new graph
 pub classes-kept : (G H : Graph) (c : Change) (old new : List ℕ) → IsWellFormed G → effect G c ≡ Ok H → old ≡ classes_in G.elements →

@@ -1,5 +1,6 @@
 -- What every draft keeps: the history that it began from is legal.
 use Rattle.std.specs.Prelude.{◌≡◌}
+use Rattle.pm_model.specs.Answer.{longest_history}
 use Rattle.pm_model.specs.History.{Machine, IsLegal}
 use Rattle.pm_state.specs.declared.draft.Draft.TheInside.{Inside}
 
@@ -8,4 +9,4 @@ drafted_of d = record { graph = d.graph; history = d.history.entries }
 
 pub record IsDraft (d : Inside) : Type 0 where
   pub legal : IsLegal d.history.entries
-  pub limit : d.history.limit ≡ 262144
+  pub limit : d.history.limit ≡ longest_history

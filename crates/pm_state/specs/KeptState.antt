@@ -1,5 +1,6 @@
 -- What every state keeps: the history is legal, and what it leads to is the state. The graph keeps well formed by itself.
 use Rattle.std.specs.Prelude.{◌≡◌}
+use Rattle.pm_model.specs.Answer.{longest_history}
 use Rattle.pm_model.specs.History.{Machine, IsReplayed}
 use Rattle.pm_state.specs.declared.state.State.TheInside.{Inside}
 
@@ -8,4 +9,4 @@ machine_of s = record { graph = s.graph; history = s.history.entries }
 
 pub record IsState (s : Inside) : Type 0 where
   pub replayed : IsReplayed (machine_of s)
-  pub limit : s.history.limit ≡ 262144
+  pub limit : s.history.limit ≡ longest_history

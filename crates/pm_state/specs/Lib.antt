@@ -1,3 +1,4 @@
+pub mod Changes
 pub mod Classes
 pub mod Kept
 pub mod KeptDraft

@@ -1,9 +1,10 @@
 //! Changes of associations: the kinds of their ends, before the table's own preconditions.
 
-ghost use Rattle.std.specs.Prelude.{◌≡◌, OnOk, OnErr, IfOk, IfErr, None};
+ghost use Rattle.std.specs.Prelude.{◌≡◌};
 ghost use Rattle.pm_model.specs.State.{element_at};
-ghost use Rattle.pm_model.specs.Effect.{refusal, effect, both, may_associate, IsCause};
+ghost use Rattle.pm_model.specs.Effect.{both, may_associate};
 ghost use Rattle.pm_model.specs.Formed.{IsNamed, IsLive};
+ghost use Rattle.pm_state.specs.Changes.{Changes, Checks};
 ghost use Rattle.pm_state.specs.Shown.{graph_of};
 
 use crate::tables::Tables;
@@ -35,11 +36,7 @@ impl Tables {
         at: ElementId,
     ) -> Result<Made, ChangeError>
         requires { IsNamed (graph_of self.old) (Change.Associate ua rights at) }
-        ensures ok { OnOk result (effect (graph_of self.old) (Change.Associate ua rights at) ≡ Ok (graph_of self.new)) }
-        ensures made { IfOk result (λ m. m ≡ Made.Nothing) }
-        ensures refused { IfErr result (IsCause (refusal (graph_of self.old) (Change.Associate ua rights at))) }
-        ensures classes { self.new.classes ≡ self.old.classes }
-        ensures err { OnErr result (self.new ≡ self.old) }
+        ensures { Changes self.old self.new (Change.Associate ua rights at) result }
     {
         if !self.both_may_associate(ua, at) {
             return Err(ChangeError::Refused(Refusal::BadKinds));
@@ -58,8 +55,7 @@ impl Tables {
         at: ElementId,
     ) -> Result<(), ChangeError>
         requires { IsNamed (graph_of self.now) (Change.Associate ua rights at) }
-        ensures ok { OnOk result (refusal (graph_of self.now) (Change.Associate ua rights at) ≡ None) }
-        ensures refused { IfErr result (IsCause (refusal (graph_of self.now) (Change.Associate ua rights at))) }
+        ensures { Checks self.now (Change.Associate ua rights at) result }
     {
         if !self.both_may_associate(ua, at) {
             return Err(ChangeError::Refused(Refusal::BadKinds));
@@ -72,11 +68,7 @@ impl Tables {
 
     pub(crate) fn dissociate(&mut self, ua: ElementId, at: ElementId) -> Result<Made, ChangeError>
         requires { IsNamed (graph_of self.old) (Change.Dissociate ua at) }
-        ensures ok { OnOk result (effect (graph_of self.old) (Change.Dissociate ua at) ≡ Ok (graph_of self.new)) }
-        ensures made { IfOk result (λ m. m ≡ Made.Nothing) }
-        ensures refused { IfErr result (IsCause (refusal (graph_of self.old) (Change.Dissociate ua at))) }
-        ensures classes { self.new.classes ≡ self.old.classes }
-        ensures err { OnErr result (self.new ≡ self.old) }
+        ensures { Changes self.old self.new (Change.Dissociate ua at) result }
     {
         match self.assoc.dissociate(ua, at) {
             Ok(()) => Ok(Made::Nothing),
@@ -86,8 +78,7 @@ impl Tables {
 
     pub(crate) fn check_dissociate(&self, ua: ElementId, at: ElementId) -> Result<(), ChangeError>
         requires { IsNamed (graph_of self.now) (Change.Dissociate ua at) }
-        ensures ok { OnOk result (refusal (graph_of self.now) (Change.Dissociate ua at) ≡ None) }
-        ensures refused { IfErr result (IsCause (refusal (graph_of self.now) (Change.Dissociate ua at))) }
+        ensures { Checks self.now (Change.Dissociate ua at) result }
     {
         match self.assoc.check_dissociate(ua, at) {
             Ok(()) => Ok(()),

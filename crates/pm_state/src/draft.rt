@@ -1,4 +1,5 @@
 ghost use Rattle.std.specs.Prelude.{◌≡◌, ◌<◌, ◌≤◌, ◌∷◌, ◌++◌, [], Ok, length, OnOk, OnErr, IfOk, IfErr};
+ghost use Rattle.pm_model.specs.Answer.{longest_history};
 ghost use Rattle.pm_model.specs.Effect.{refusal, effect, IsCause};
 ghost use Rattle.pm_model.specs.Formed.{IsNamed};
 ghost use Rattle.pm_model.specs.History.{IsAnswered, IsLegal};
@@ -32,7 +33,7 @@ impl Model for Draft {
 impl Draft {
     pub(crate) fn begun(graph: Graph, history: History) -> Draft
         requires legal { IsLegal history.entries }
-        requires limit { history.limit ≡ 262144 }
+        requires limit { history.limit ≡ longest_history }
         ensures { result ≡ record { graph = graph; history = history.entries } }
     {
         Draft { graph, history }
@@ -63,8 +64,8 @@ impl Draft {
     pub fn finish(self, entry: Entry) -> Result<State, HistoryError>
         requires { IsAnswered self entry.request }
         ensures ok { IfOk result (λ s. s ≡ record { graph = self.graph; history = self.history ++ entry ∷ [] }) }
-        ensures room { OnOk result (length self.history < 262144) }
-        ensures full { IfErr result (λ e. e ≡ HistoryError.Full → 262144 ≤ length self.history) }
+        ensures room { OnOk result (length self.history < longest_history) }
+        ensures full { IfErr result (λ e. e ≡ HistoryError.Full → longest_history ≤ length self.history) }
     {
         let Draft { graph, mut history } = self;
         match history.push(entry) {

@@ -1,13 +1,12 @@
 //! Changes of elements and their assignments.
 
-ghost use Rattle.std.specs.Prelude.{◌≡◌, ◌||◌, OnOk, OnErr, IfOk, IfErr, IfSome, None, Some};
+ghost use Rattle.std.specs.Prelude.{◌≡◌, ◌||◌, None, Some};
 ghost use Rattle.std.specs.List.{list_any};
-ghost use Rattle.pm_model.specs.Results.{first_of};
 ghost use Rattle.pm_model.specs.Decision.{associations_of};
 ghost use Rattle.pm_model.specs.Prohibitions.{names_element};
-ghost use Rattle.pm_model.specs.Effect.{refusal, effect, create_checks, is_builtin, is_builtin_element, has_end, is_in_use, IsCause};
-ghost use Rattle.pm_model.specs.Formed.{IsNamed, IsLive};
-ghost use Rattle.pm_state.specs.Classes.{placed_number, with_class, without_number};
+ghost use Rattle.pm_model.specs.Effect.{is_builtin, is_builtin_element, has_end, is_in_use};
+ghost use Rattle.pm_model.specs.Formed.{IsNamed};
+ghost use Rattle.pm_state.specs.Changes.{Changes, Checks};
 ghost use Rattle.pm_state.specs.Shown.{graph_of};
 
 use crate::classes::{place, take_out};
@@ -30,11 +29,7 @@ impl Tables {
     // A new policy class stands in the list of classes first, which can be taken back where the table then has no memory.
     fn create_class(&mut self, id: ElementId, name: Name) -> Result<Made, ChangeError>
         requires { IsNamed (graph_of self.old) (Change.Create id Kind.Pc name None) }
-        ensures ok { OnOk result (effect (graph_of self.old) (Change.Create id Kind.Pc name None) ≡ Ok (graph_of self.new)) }
-        ensures made { IfOk result (λ m. m ≡ Made.Element id) }
-        ensures refused { IfErr result (IsCause (refusal (graph_of self.old) (Change.Create id Kind.Pc name None))) }
-        ensures classes { OnOk result (self.new.classes ≡ placed_number id self.old.classes) }
-        ensures err { OnErr result (self.new ≡ self.old) }
+        ensures { Changes self.old self.new (Change.Create id Kind.Pc name None) result }
     {
         match self.elements.check_create(Kind::Pc, name, None) {
             Ok(()) => {}
@@ -62,11 +57,7 @@ impl Tables {
         into: ElementId,
     ) -> Result<Made, ChangeError>
         requires { IsNamed (graph_of self.old) (Change.Create id kind name (Some into)) }
-        ensures ok { OnOk result (effect (graph_of self.old) (Change.Create id kind name (Some into)) ≡ Ok (graph_of self.new)) }
-        ensures made { IfOk result (λ m. m ≡ Made.Element id) }
-        ensures refused { IfErr result (IsCause (refusal (graph_of self.old) (Change.Create id kind name (Some into)))) }
-        ensures classes { OnOk result (self.new.classes ≡ with_class kind id self.old.classes) }
-        ensures err { OnErr result (self.new ≡ self.old) }
+        ensures { Changes self.old self.new (Change.Create id kind name (Some into)) result }
     {
         if kind == Kind::Pc {
             return Err(ChangeError::Refused(Refusal::BadKinds));
@@ -86,11 +77,7 @@ impl Tables {
         into: Option<ElementId>,
     ) -> Result<Made, ChangeError>
         requires { IsNamed (graph_of self.old) (Change.Create id kind name into) }
-        ensures ok { OnOk result (effect (graph_of self.old) (Change.Create id kind name into) ≡ Ok (graph_of self.new)) }
-        ensures made { IfOk result (λ m. m ≡ Made.Element id) }
-        ensures refused { IfErr result (IsCause (refusal (graph_of self.old) (Change.Create id kind name into))) }
-        ensures classes { OnOk result (self.new.classes ≡ with_class kind id self.old.classes) }
-        ensures err { OnErr result (self.new ≡ self.old) }
+        ensures { Changes self.old self.new (Change.Create id kind name into) result }
     {
         match into {
             None => self.create_class(id, name),
@@ -100,13 +87,13 @@ impl Tables {
 
     pub(crate) fn check_create(
         &self,
+        id: ElementId,
         kind: Kind,
         name: Name,
         into: Option<ElementId>,
     ) -> Result<(), ChangeError>
-        requires { IfSome into (IsLive self.now.elements.elements) }
-        ensures ok { OnOk result (first_of (create_checks self.now.elements.elements self.now.elements.assigned kind name into) ≡ None) }
-        ensures refused { IfErr result (IsCause (first_of (create_checks self.now.elements.elements self.now.elements.assigned kind name into))) }
+        requires { IsNamed (graph_of self.now) (Change.Create id kind name into) }
+        ensures { Checks self.now (Change.Create id kind name into) result }
     {
         match self.elements.check_create(kind, name, into) {
             Ok(()) => Ok(()),
@@ -130,11 +117,7 @@ impl Tables {
     /// It takes no memory. It looks at each association, prohibition and session.
     pub(crate) fn delete(&mut self, id: ElementId) -> Result<Made, ChangeError>
         requires { IsNamed (graph_of self.old) (Change.Delete id) }
-        ensures ok { OnOk result (effect (graph_of self.old) (Change.Delete id) ≡ Ok (graph_of self.new)) }
-        ensures made { IfOk result (λ m. m ≡ Made.Nothing) }
-        ensures refused { IfErr result (IsCause (refusal (graph_of self.old) (Change.Delete id))) }
-        ensures classes { OnOk result (self.new.classes ≡ without_number id self.old.classes) }
-        ensures err { OnErr result (self.new ≡ self.old) }
+        ensures { Changes self.old self.new (Change.Delete id) result }
     {
         match self.check_delete(id) {
             Ok(()) => {}
@@ -151,8 +134,7 @@ impl Tables {
 
     pub(crate) fn check_delete(&self, id: ElementId) -> Result<(), ChangeError>
         requires { IsNamed (graph_of self.now) (Change.Delete id) }
-        ensures ok { OnOk result (refusal (graph_of self.now) (Change.Delete id) ≡ None) }
-        ensures refused { IfErr result (IsCause (refusal (graph_of self.now) (Change.Delete id))) }
+        ensures { Checks self.now (Change.Delete id) result }
     {
         if is_builtin_element(id) {
             return Err(ChangeError::Refused(Refusal::Builtin));
@@ -168,8 +150,7 @@ impl Tables {
 
     pub(crate) fn check_assign(&self, from: ElementId, to: ElementId) -> Result<(), ChangeError>
         requires { IsNamed (graph_of self.now) (Change.Assign from to) }
-        ensures ok { OnOk result (refusal (graph_of self.now) (Change.Assign from to) ≡ None) }
-        ensures refused { IfErr result (IsCause (refusal (graph_of self.now) (Change.Assign from to))) }
+        ensures { Checks self.now (Change.Assign from to) result }
     {
         match self.elements.check_assign(from, to) {
             Ok(()) => Ok(()),
@@ -179,11 +160,7 @@ impl Tables {
 
     pub(crate) fn assign(&mut self, from: ElementId, to: ElementId) -> Result<Made, ChangeError>
         requires { IsNamed (graph_of self.old) (Change.Assign from to) }
-        ensures ok { OnOk result (effect (graph_of self.old) (Change.Assign from to) ≡ Ok (graph_of self.new)) }
-        ensures made { IfOk result (λ m. m ≡ Made.Nothing) }
-        ensures refused { IfErr result (IsCause (refusal (graph_of self.old) (Change.Assign from to))) }
-        ensures classes { self.new.classes ≡ self.old.classes }
-        ensures err { OnErr result (self.new ≡ self.old) }
+        ensures { Changes self.old self.new (Change.Assign from to) result }
     {
         match self.elements.assign(from, to) {
             Ok(()) => Ok(Made::Nothing),
@@ -193,11 +170,7 @@ impl Tables {
 
     pub(crate) fn deassign(&mut self, from: ElementId, to: ElementId) -> Result<Made, ChangeError>
         requires { IsNamed (graph_of self.old) (Change.Deassign from to) }
-        ensures ok { OnOk result (effect (graph_of self.old) (Change.Deassign from to) ≡ Ok (graph_of self.new)) }
-        ensures made { IfOk result (λ m. m ≡ Made.Nothing) }
-        ensures refused { IfErr result (IsCause (refusal (graph_of self.old) (Change.Deassign from to))) }
-        ensures classes { self.new.classes ≡ self.old.classes }
-        ensures err { OnErr result (self.new ≡ self.old) }
+        ensures { Changes self.old self.new (Change.Deassign from to) result }
     {
         if is_builtin(from, to) {
             return Err(ChangeError::Refused(Refusal::Builtin));
@@ -210,8 +183,7 @@ impl Tables {
 
     pub(crate) fn check_deassign(&self, from: ElementId, to: ElementId) -> Result<(), ChangeError>
         requires { IsNamed (graph_of self.now) (Change.Deassign from to) }
-        ensures ok { OnOk result (refusal (graph_of self.now) (Change.Deassign from to) ≡ None) }
-        ensures refused { IfErr result (IsCause (refusal (graph_of self.now) (Change.Deassign from to))) }
+        ensures { Checks self.now (Change.Deassign from to) result }
     {
         if is_builtin(from, to) {
             return Err(ChangeError::Refused(Refusal::Builtin));

@@ -1,10 +1,10 @@
 //! Changes of prohibitions, and of the names of rights.
 
-ghost use Rattle.std.specs.Prelude.{◌≡◌, ◌<◌, OnOk, OnErr, IfOk, IfErr, None, length};
+ghost use Rattle.std.specs.Prelude.{◌≡◌, ◌<◌, Ok, length};
 ghost use Rattle.std.specs.List.{list_all};
 ghost use Rattle.pm_model.specs.State.{element_at};
-ghost use Rattle.pm_model.specs.Effect.{refusal, effect, has_kind, has_subject_kind, is_place, is_place_kind, is_ua_kind, may_prohibit, IsCause};
-ghost use Rattle.pm_state.specs.Shown.{graph_of};
+ghost use Rattle.pm_model.specs.Effect.{has_kind, has_subject_kind, is_place, is_place_kind, is_ua_kind, may_prohibit};
+ghost use Rattle.pm_state.specs.Changes.{Changes, Checks};
 
 use crate::tables::Tables;
 use pm_model::{
@@ -60,11 +60,7 @@ impl Tables {
     }
 
     pub(crate) fn prohibit(&mut self, item: &Prohibition) -> Result<Made, ChangeError>
-        ensures ok { OnOk result (effect (graph_of self.old) (Change.Prohibit item.now) ≡ Ok (graph_of self.new)) }
-        ensures made { IfOk result (λ m. m ≡ Made.Nothing) }
-        ensures refused { IfErr result (IsCause (refusal (graph_of self.old) (Change.Prohibit item.now))) }
-        ensures classes { self.new.classes ≡ self.old.classes }
-        ensures err { OnErr result (self.new ≡ self.old) }
+        ensures { Changes self.old self.new (Change.Prohibit item.now) result }
     {
         if !self.may_prohibit(item) {
             return Err(ChangeError::Refused(Refusal::BadKinds));
@@ -80,8 +76,7 @@ impl Tables {
     }
 
     pub(crate) fn check_prohibit(&self, item: &Prohibition) -> Result<(), ChangeError>
-        ensures ok { OnOk result (refusal (graph_of self.now) (Change.Prohibit item.now) ≡ None) }
-        ensures refused { IfErr result (IsCause (refusal (graph_of self.now) (Change.Prohibit item.now))) }
+        ensures { Checks self.now (Change.Prohibit item.now) result }
     {
         if !self.may_prohibit(item) {
             return Err(ChangeError::Refused(Refusal::BadKinds));
@@ -94,20 +89,14 @@ impl Tables {
 
     pub(crate) fn lift(&mut self, index: u32) -> Made
         requires { index < length self.old.deny }
-        ensures ok { effect (graph_of self.old) (Change.Lift index) ≡ Ok (graph_of self.new) }
-        ensures made { result ≡ Made.Nothing }
-        ensures classes { self.new.classes ≡ self.old.classes }
+        ensures { Changes self.old self.new (Change.Lift index) (Ok result) }
     {
         self.deny.lift_at(index);
         Made::Nothing
     }
 
     pub(crate) fn define_right(&mut self, name: Name) -> Result<Made, ChangeError>
-        ensures ok { OnOk result (effect (graph_of self.old) (Change.DefineRight name) ≡ Ok (graph_of self.new)) }
-        ensures made { IfOk result (λ m. m ≡ Made.Nothing) }
-        ensures refused { IfErr result (IsCause (refusal (graph_of self.old) (Change.DefineRight name))) }
-        ensures classes { self.new.classes ≡ self.old.classes }
-        ensures err { OnErr result (self.new ≡ self.old) }
+        ensures { Changes self.old self.new (Change.DefineRight name) result }
     {
         match self.rights.define(name) {
             Ok(()) => Ok(Made::Nothing),
@@ -116,8 +105,7 @@ impl Tables {
     }
 
     pub(crate) fn check_define_right(&self, name: Name) -> Result<(), ChangeError>
-        ensures ok { OnOk result (refusal (graph_of self.now) (Change.DefineRight name) ≡ None) }
-        ensures refused { IfErr result (IsCause (refusal (graph_of self.now) (Change.DefineRight name))) }
+        ensures { Checks self.now (Change.DefineRight name) result }
     {
         match self.rights.check_define(name) {
             Ok(()) => Ok(()),

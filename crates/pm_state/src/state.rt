@@ -2,7 +2,7 @@ ghost use Rattle.std.specs.Prelude.{◌≡◌, ◌<◌, ◌≤◌, ◌∷◌, �
 ghost use Rattle.std.specs.Option.{option_copied};
 ghost use Rattle.pm_model.specs.Effect.{effect, IsCause};
 ghost use Rattle.pm_model.specs.Formed.{IsNamed};
-ghost use Rattle.pm_model.specs.Answer.{entered, proposed, refusal_in};
+ghost use Rattle.pm_model.specs.Answer.{entered, longest_history, proposed, refusal_in};
 ghost use Rattle.pm_model.specs.History.{IsReplayed, opening_machine, state_of};
 ghost use Rattle.pm_model.specs.Made.{made_by};
 ghost use Rattle.pm_laws.specs.Meaning.{AreGivenBy};
@@ -48,7 +48,7 @@ impl State {
 
     pub(crate) fn joined(graph: Graph, history: History) -> State
         requires replayed { IsReplayed (record { graph = graph; history = history.entries }) }
-        requires limit { history.limit ≡ 262144 }
+        requires limit { history.limit ≡ longest_history }
         ensures { result ≡ record { graph = graph; history = history.entries } }
     {
         State { graph, history }
@@ -57,7 +57,7 @@ impl State {
     /// How many entries were accepted.
     pub fn version(&self) -> u64
         ensures version { result ≡ length self.now.history }
-        ensures most { result ≤ 262144 }
+        ensures most { result ≤ longest_history }
     {
         let _limit = self.history.limit();
         self.history.len()
@@ -94,7 +94,7 @@ impl State {
     // What is told where the history is full: a precondition that isn't met comes first.
     fn full(&self, change: &Change) -> ChangeError
         requires named { IsNamed self.now.graph change.now }
-        requires full { 262144 ≤ length self.now.history }
+        requires full { longest_history ≤ length self.now.history }
         ensures { IsCause (refusal_in (state_of self.now) change.now) result }
     {
         match self.graph.check(change) {
@@ -110,7 +110,7 @@ impl State {
         requires asked { proposed (state_of self.old) entry.request ≡ entered (state_of self.old) (Ok change.now) }
         ensures ok { OnOk result (effect self.old.graph change.now ≡ Ok self.new.graph) }
         ensures history { OnOk result (self.new.history ≡ self.old.history ++ entry ∷ []) }
-        ensures room { OnOk result (length self.old.history < 262144) }
+        ensures room { OnOk result (length self.old.history < longest_history) }
         ensures made { IfOk result (λ m. m ≡ made_by self.old.graph change.now) }
         ensures refused { IfErr result (IsCause (refusal_in (state_of self.old) change.now)) }
         ensures err { OnErr result (self.new ≡ self.old) }

@@ -1,9 +1,7 @@
 //! The tables, and what each change does to them. The methods for the changes stand by topic, in files of their own.
-ghost use Rattle.std.specs.Prelude.{◌≡◌, OnOk, OnErr, IfOk, IfErr, None};
-ghost use Rattle.pm_model.specs.Effect.{refusal, effect, IsCause};
+ghost use Rattle.std.specs.Prelude.{◌≡◌, IfOk};
 ghost use Rattle.pm_model.specs.Formed.{IsNamed};
-ghost use Rattle.pm_model.specs.Made.{made_by};
-ghost use Rattle.pm_state.specs.Classes.{classes_after};
+ghost use Rattle.pm_state.specs.Changes.{Changes, Checks};
 ghost use Rattle.pm_state.specs.Shown.{graph_of};
 
 use pm_assoc::Assoc;
@@ -48,11 +46,7 @@ impl Tables {
     /// Makes one change, or tells the first precondition that isn't met.
     pub(crate) fn change(&mut self, change: &Change) -> Result<Made, ChangeError>
         requires { IsNamed (graph_of self.old) change.now }
-        ensures ok { OnOk result (effect (graph_of self.old) change.now ≡ Ok (graph_of self.new)) }
-        ensures made { IfOk result (λ m. m ≡ made_by (graph_of self.old) change.now) }
-        ensures refused { IfErr result (IsCause (refusal (graph_of self.old) change.now)) }
-        ensures classes { OnOk result (self.new.classes ≡ classes_after change.now self.old.classes) }
-        ensures err { OnErr result (self.new ≡ self.old) }
+        ensures { Changes self.old self.new change.now result }
     {
         match change {
             Change::Create {
@@ -79,16 +73,15 @@ impl Tables {
     /// Tells the first precondition of the change that isn't met, and changes nothing.
     pub(crate) fn check(&self, change: &Change) -> Result<(), ChangeError>
         requires { IsNamed (graph_of self.now) change.now }
-        ensures ok { OnOk result (refusal (graph_of self.now) change.now ≡ None) }
-        ensures refused { IfErr result (IsCause (refusal (graph_of self.now) change.now)) }
+        ensures { Checks self.now change.now result }
     {
         match change {
             Change::Create {
+                id,
                 kind,
                 name,
                 into,
-                ..
-            } => self.check_create(*kind, *name, *into),
+            } => self.check_create(*id, *kind, *name, *into),
             Change::Delete { id } => self.check_delete(*id),
             Change::Assign { from, to } => self.check_assign(*from, *to),
             Change::Deassign { from, to } => self.check_deassign(*from, *to),

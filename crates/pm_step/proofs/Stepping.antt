@@ -1,6 +1,7 @@
 -- From a request that comes to a change to the machine's answer.
 use Rattle.std.proofs.Common.{◌≡◌, ◌<◌, ◌≤◌, ◌+◌, ℕ, nat_le, Bool, true, false, List, [], ◌∷◌, ◌++◌, length, Option, Some, None, Result, Ok, Err, IfOk, refl, sym, ◌∙◌, ap, subst, length-append}
 use Rattle.std.proofs.lemmas.Bool.{le-leb}
+use Rattle.std.proofs.lemmas.Option.{same_Some}
 use Rattle.std.proofs.lemmas.List.{append-nil}
 use Rattle.pm_model.specs.State.{State, Graph}
 use Rattle.pm_model.specs.Effect.{refusal, changed, effect}
@@ -35,18 +36,15 @@ full-is S r c H proposal full = rw (proposal, full) refl
 pub refused-is : (S : State) (r : Request) (c : Change) (why : Refusal) → proposed S r ≡ entered S (Ok c) → refusal_in S c ≡ Some why →
     answer S r ≡ told (Refused why)
 refused-is S r c why proposal = of (refusal S.graph c) (nat_le longest_history S.version) refl refl where
-  some-is : (v w : Refusal) → Some v ≡ Some w → v ≡ w
-  some-is v w same = cc
-
   of : (o : Option Refusal) (full : Bool) → refusal S.graph c ≡ o → nat_le longest_history S.version ≡ full → refusal_in S c ≡ Some why →
       answer S r ≡ told (Refused why)
   of (Some w) full is limit h =
       let unmet : proposed S r ≡ told (Refused w) = proposal ∙ rw is refl in
-      let same : w ≡ why = some-is w why (rw is at h) in
+      let same : w ≡ why = same_Some w why (rw is at h) in
       ap (limited S) unmet ∙ ap (λ (v : Refusal). told (Refused v)) same
   of None true is limit h =
       let met : proposed S r ≡ given S c (changed S.graph c) = proposal ∙ rw is refl in
-      let same : Full History ≡ why = some-is (Full History) why (rw (is, limit) at h) in
+      let same : Full History ≡ why = same_Some (Full History) why (rw (is, limit) at h) in
       full-is S r c (changed S.graph c) met limit ∙ ap (λ (v : Refusal). told (Refused v)) same
   of None false is limit h = absurd (let none : None ≡ Some why = rw (is, limit) at h in cc)
 

@@ -1,5 +1,6 @@
 //! The machine with one caller.
 ghost use Rattle.std.specs.Prelude.{◌≡◌, ◌≤◌, length, IfOk, OnErr, is_some};
+ghost use Rattle.pm_model.specs.Answer.{longest_history};
 ghost use Rattle.pm_model.specs.State.{element_at};
 ghost use Rattle.pm_model.specs.Nameable.{IsNameable};
 ghost use Rattle.pm_model.specs.History.{opening_machine};
@@ -37,7 +38,7 @@ impl Solo {
     /// How many entries were accepted.
     pub fn version(&self) -> u64
         ensures version { result ≡ length self.now.history }
-        ensures most { result ≤ 262144 }
+        ensures most { result ≤ longest_history }
     {
         self.state.version()
     }

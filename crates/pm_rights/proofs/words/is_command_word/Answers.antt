@@ -1,7 +1,7 @@
-use Rattle.pm_model.specs.RightSet.{command_words}
+use Rattle.pm_model.specs.RightSet.{commands}
 use Rattle.pm_rights.proofs.words.is_command_word.Goals as goal
 
--- the texts in the code are the words
+-- the words in the code are the commands
 pub returns : goal.returns
-unfolding command_words
+unfolding commands
 returns c = c.is_any_of.ensures

@@ -2,7 +2,7 @@
 use Rattle.std.proofs.Common.{ap, ◌∙◌, arith, length}
 use Rattle.std.proofs.lemmas.Bool.{leb-false}
 use Rattle.pm_laws.proofs.Checks.{passed}
-use Rattle.pm_model.specs.Effect.{assign_checks}
+use Rattle.pm_model.specs.Effect.{max_assignments, assign_checks}
 use Rattle.pm_elements.specs.Kept.{Kept}
 use Rattle.pm_elements.specs.Slots.{shown}
 use Rattle.pm_elements.proofs.Shown.{slot_taken}
@@ -30,7 +30,7 @@ invariant_of-self-2 c =
     (slot_taken slots c.args.x (rw (← c.self.view_is) at c.requires.x_live))
     (slot_taken slots c.args.y (rw (← c.self.view_is) at c.requires.y_live))
     p.1.0
-    (omega (arith, leb-false 131072 (length pairs) p.1.1.1.0)))
+    (omega (arith, leb-false max_assignments (length pairs) p.1.1.1.0)))
 
 pub returns-clause-ok : goal.returns-clause-ok
 returns-clause-ok c =
