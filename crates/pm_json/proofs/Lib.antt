@@ -1,9 +1,12 @@
 pub mod Asking
 pub mod Bounds
+pub mod Distinct
 pub mod Fair
 pub mod Fields
+pub mod Lists
 pub mod Members
 pub mod Names
 pub mod Replied
 pub mod Replying
 pub mod Taken
+pub mod Texts

@@ -9,8 +9,6 @@ use Rattle.pm_model.specs.declared.words.Key.TheVariants as key
 use Rattle.pm_model.specs.declared.words.Word.{Word}
 use Rattle.pm_model.specs.declared.words.Word.TheVariants as word
 use Rattle.pm_model.specs.declared.lines.BadLine.TheVariants.{TooLong, NotJson, NotRequest, UnknownCommand, BadField}
-use Rattle.pm_model.specs.declared.lines.Field.{Field}
-use Rattle.pm_model.specs.declared.lines.Field.TheVariants as field
 use Rattle.pm_model.specs.declared.replies.Refusal.TheVariants as refusal
 use Rattle.pm_model.specs.declared.replies.Table.{Table}
 use Rattle.pm_model.specs.declared.replies.Table.TheVariants as table
@@ -29,13 +27,17 @@ abbrev pub beside : {A : Type 0} → List (Word × A) → List ℕ → Option A
 beside [] w = None
 beside (p ∷ ps) w = if bytes_eq w (word_text p.0) then Some p.1 else beside ps w
 
-abbrev pub field_words : List (Word × Field)
-field_words =
-    (word.Id, field.Id) ∷ (word.After, field.After) ∷ (word.Proc, field.Proc) ∷ (word.Process, field.Process)
-    ∷ (word.Session, field.Session) ∷ (word.Name, field.Name) ∷ (word.Into, field.Into) ∷ (word.From, field.From)
-    ∷ (word.To, field.To) ∷ (word.Ua, field.Ua) ∷ (word.At, field.At) ∷ (word.User, field.User) ∷ (word.Target, field.Target)
-    ∷ (word.Right, field.Right) ∷ (word.Rights, field.Rights) ∷ (word.Inc, field.Inc) ∷ (word.Exc, field.Exc)
-    ∷ (word.Mode, field.Mode) ∷ (word.Subject, field.Subject) ∷ []
+abbrev pub keys : List Key
+keys =
+    key.After ∷ key.At ∷ key.Class ∷ key.Cmd ∷ key.Exc ∷ key.Field ∷ key.From
+    ∷ key.Id ∷ key.Inc ∷ key.Into ∷ key.Mode ∷ key.Name ∷ key.No ∷ key.Ok
+    ∷ key.Proc ∷ key.Process ∷ key.Prohibition ∷ key.Right ∷ key.Rights ∷ key.Session ∷ key.Subject
+    ∷ key.Table ∷ key.Target ∷ key.To ∷ key.Ua ∷ key.User ∷ key.V ∷ []
+
+-- the first of the keys that is spelt so
+abbrev pub spelt : List Key → List ℕ → Option Key
+spelt [] w = None
+spelt (k ∷ ks) w = if bytes_eq w (key_text k) then Some k else spelt ks w
 
 abbrev pub table_words : List (Word × Table)
 table_words =
@@ -69,7 +71,7 @@ module _ (look : List ℕ → Option Data) where
   done = plain (Done (made_by (number_at key.Process) (number_at key.Session)))
 
   abbrev pub bad_field : Option Shown
-  bad_field = option_map (λ f. plain (Bad (BadField f))) (option_and_then (beside field_words) (text_at key.Field))
+  bad_field = option_map (λ k. plain (Bad (BadField k))) (option_and_then (spelt keys) (text_at key.Field))
 
   abbrev pub unknown_name : Option Shown
   unknown_name = option_map (λ name. plain (Refused (refusal.UnknownName name))) (name_at key.Name)

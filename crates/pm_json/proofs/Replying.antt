@@ -10,13 +10,14 @@ use Rattle.serde_json.specs.Written.{compact_text}
 use Rattle.pm_model.specs.Asked.{looking, whole_form}
 use Rattle.pm_model.specs.Name.{is_name, is_name_byte}
 use Rattle.pm_model.specs.Object.{present, whole, whole_if, texted}
-use Rattle.pm_model.specs.Text.{text, front, no_front, said, field_word, table_word, with_version}
+use Rattle.pm_model.specs.Text.{text, front, no_front, said, table_word, with_version}
 use Rattle.pm_model.specs.Words.{key_text, word_text}
 use Rattle.pm_model.specs.declared.words.Word.{Word}
 use Rattle.pm_model.specs.declared.words.Word.TheVariants as word
 use Rattle.pm_model.specs.declared.lines.BadLine.{BadLine}
 use Rattle.pm_model.specs.declared.lines.BadLine.TheVariants.{TooLong, NotJson, NotRequest, UnknownCommand, BadField}
-use Rattle.pm_model.specs.declared.lines.Field.TheVariants as field
+use Rattle.pm_model.specs.declared.words.Key.{Key}
+use Rattle.pm_model.specs.declared.words.Key.TheVariants as key
 use Rattle.pm_model.specs.declared.replies.Refusal.{Refusal}
 use Rattle.pm_model.specs.declared.replies.Refusal.TheVariants as refusal
 use Rattle.pm_model.specs.declared.replies.Table.TheVariants as table
@@ -28,11 +29,11 @@ use Rattle.pm_model.specs.declared.replies.Shown as made
 use Rattle.pm_model.specs.declared.replies.Shown.TheVariants as shows
 use Rattle.pm_json.specs.Printable.{names_in, names_in_refusal, names_in_reason, numbers_in, numbers_in_shown, ShowsNames, ShowsNumbers, IsPrintable}
 use Rattle.pm_json.specs.Shown.{Shown, shown}
-use Rattle.pm_json.proofs.Bounds.{plain-word}
 use Rattle.pm_json.proofs.Fair.{read-compact}
 use Rattle.pm_json.proofs.Fields.{or_else, in_order, ValueFair, ValuesFair, MembersFair-present, shallow-present, finding, looks}
 use Rattle.pm_json.proofs.Members.{plain-name}
 use Rattle.pm_json.proofs.Replied as replied
+use Rattle.pm_json.proofs.Texts.{key_name, word_name}
 
 -- ---- what the members say
 
@@ -43,6 +44,36 @@ or_none (Some d) = refl
 number_told : (n : Option ℕ) → option_and_then whole_form (whole_if n) ≡ n
 number_told None = refl
 number_told (Some n) = refl
+
+spelt_key : (k : Key) → replied.spelt replied.keys (key_text k) ≡ Some k
+unfolding key_text
+spelt_key key.After = refl
+spelt_key key.At = refl
+spelt_key key.Class = refl
+spelt_key key.Cmd = refl
+spelt_key key.Exc = refl
+spelt_key key.Field = refl
+spelt_key key.From = refl
+spelt_key key.Id = refl
+spelt_key key.Inc = refl
+spelt_key key.Into = refl
+spelt_key key.Mode = refl
+spelt_key key.Name = refl
+spelt_key key.No = refl
+spelt_key key.Ok = refl
+spelt_key key.Proc = refl
+spelt_key key.Process = refl
+spelt_key key.Prohibition = refl
+spelt_key key.Right = refl
+spelt_key key.Rights = refl
+spelt_key key.Session = refl
+spelt_key key.Subject = refl
+spelt_key key.Table = refl
+spelt_key key.Target = refl
+spelt_key key.To = refl
+spelt_key key.Ua = refl
+spelt_key key.User = refl
+spelt_key key.V = refl
 
 abbrev said_as : Option ℕ → ℕ → Shown → replied.Said
 said_as id v what = record { id = id; version = v; shown = what }
@@ -60,25 +91,7 @@ module _ (id : Option ℕ) (v : ℕ) (names : ℕ → List ℕ) where
   told_bad NotJson = rw (or_none (whole_if id), number_told id) refl
   told_bad NotRequest = rw (or_none (whole_if id), number_told id) refl
   told_bad UnknownCommand = rw (or_none (whole_if id), number_told id) refl
-  told_bad (BadField field.Id) = rw (or_none (whole_if id), number_told id) refl
-  told_bad (BadField field.After) = rw (or_none (whole_if id), number_told id) refl
-  told_bad (BadField field.Proc) = rw (or_none (whole_if id), number_told id) refl
-  told_bad (BadField field.Process) = rw (or_none (whole_if id), number_told id) refl
-  told_bad (BadField field.Session) = rw (or_none (whole_if id), number_told id) refl
-  told_bad (BadField field.Name) = rw (or_none (whole_if id), number_told id) refl
-  told_bad (BadField field.Into) = rw (or_none (whole_if id), number_told id) refl
-  told_bad (BadField field.From) = rw (or_none (whole_if id), number_told id) refl
-  told_bad (BadField field.To) = rw (or_none (whole_if id), number_told id) refl
-  told_bad (BadField field.Ua) = rw (or_none (whole_if id), number_told id) refl
-  told_bad (BadField field.At) = rw (or_none (whole_if id), number_told id) refl
-  told_bad (BadField field.User) = rw (or_none (whole_if id), number_told id) refl
-  told_bad (BadField field.Target) = rw (or_none (whole_if id), number_told id) refl
-  told_bad (BadField field.Right) = rw (or_none (whole_if id), number_told id) refl
-  told_bad (BadField field.Rights) = rw (or_none (whole_if id), number_told id) refl
-  told_bad (BadField field.Inc) = rw (or_none (whole_if id), number_told id) refl
-  told_bad (BadField field.Exc) = rw (or_none (whole_if id), number_told id) refl
-  told_bad (BadField field.Mode) = rw (or_none (whole_if id), number_told id) refl
-  told_bad (BadField field.Subject) = rw (or_none (whole_if id), number_told id) refl
+  told_bad (BadField k) = let found = spelt_key k in rw (or_none (whole_if id), number_told id, found) refl
 
   told_denied : (right : List ℕ) (target : ℕ) (reason : Reason) → ShowsNames (right ∷ names target ∷ names_in_reason names reason)
       → Told id v names (Refused (refusal.Denied right target reason))
@@ -144,7 +157,7 @@ fair-plain : (s : List ℕ) → list_all is_name_byte s ≡ true → ValueFair (
 fair-plain s h = (IsUtf8-are_ascii s (ascii_plain s h), omega arith)
 
 fair-said : (w : Word) → ValueFair (said w)
-fair-said w = fair-plain (word_text w) (plain-word w)
+fair-said w = fair-plain (word_text w) (plain-name (word_text w) (word_name w))
 
 fair-number : (n : Option ℕ) → IfSome n (λ n. n < 2 ^ 64) → ValueFair (whole_if n)
 fair-number None h = tt
@@ -157,7 +170,7 @@ module _ (id : Option ℕ) (v : ℕ) (names : ℕ → List ℕ) where
   ordered_bad NotJson = refl
   ordered_bad NotRequest = refl
   ordered_bad UnknownCommand = refl
-  ordered_bad (BadField f) = refl
+  ordered_bad (BadField k) = refl
 
   ordered_refused : (why : Refusal) → in_order (members id v names (Refused why)) ≡ true
   unfolding key_text
@@ -201,7 +214,7 @@ module _ (id : Option ℕ) (v : ℕ) (names : ℕ → List ℕ) (i : IfSome id (
   fair_bad NotJson = fair_no word.NotJson
   fair_bad NotRequest = fair_no word.NotRequest
   fair_bad UnknownCommand = fair_no word.UnknownCommand
-  fair_bad (BadField f) = (fair-said (field_word f), fair_no word.BadField)
+  fair_bad (BadField k) = (fair-name (key_text k) (key_name k), fair_no word.BadField)
 
   fair_denied : (right : List ℕ) (target : ℕ) (reason : Reason) → ShowsNames (right ∷ names target ∷ names_in_reason names reason)
       → ValuesFair (members id v names (Refused (refusal.Denied right target reason)))

@@ -5,7 +5,7 @@ use Rattle.std.proofs.lemmas.Slice.Eq.{bytes_eq-Decides}
 use Rattle.std.specs.List.{list_any}
 use Rattle.serde_json.specs.Data.{Data}
 use Rattle.pm_model.specs.State.{Graph}
-use Rattle.pm_model.specs.RightSet.{command_words}
+use Rattle.pm_model.specs.RightSet.{commands, command_words}
 use Rattle.pm_model.specs.Words.{word_text}
 use Rattle.pm_model.specs.Asked.{row_of}
 use Rattle.pm_model.specs.Effect.{refusal}
@@ -22,7 +22,7 @@ step w x row rest taken later = cond_both (bytes_eq w x) (Some row) rest (λ o. 
     (λ is some. subst IsTaken (sym ((bytes_eq-Decides w x).0 is)) taken) (λ is some. later some)
 
 word-taken : (look : List ℕ → Option Data) (w : List ℕ) → IsSome (row_of look w) → IsTaken w
-unfolding word_text command_words
+unfolding word_text commands
 word-taken look w =
     step w _ _ _ refl (step w _ _ _ refl (step w _ _ _ refl (step w _ _ _ refl (step w _ _ _ refl (step w _ _ _ refl
     (step w _ _ _ refl (step w _ _ _ refl (step w _ _ _ refl (step w _ _ _ refl (step w _ _ _ refl (step w _ _ _ refl

@@ -1,4 +1,5 @@
 pub mod Growth
+pub mod Lists
 pub mod Members
 pub mod Printable
 pub mod Reads

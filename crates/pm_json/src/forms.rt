@@ -1,13 +1,13 @@
 //! Forms of fields: names, numbers, lists of names, subjects and modes, by themselves and at a line's keys.
-ghost use Rattle.std.specs.Prelude.{◌≡◌, [], option_map, option_and_then, bytes_eq, IfOk};
+ghost use Rattle.std.specs.Prelude.{◌≡◌, option_map, option_and_then, bytes_eq, IfOk};
 ghost use Rattle.std.specs.List.{list_any};
 ghost use Rattle.serde_json.specs.View.{view, items_view};
-ghost use Rattle.pm_model.specs.Asked.{exc_at, list_form, looking, mode_at, mode_form, mode_of, name_at, name_form, names_of, number_at, one_subject, optional, process_of, required, rights_at, rights_form, sets_of, short_form, subject_at, subject_form, unlike, whole_form};
+ghost use Rattle.pm_model.specs.Asked.{distinct, exc_at, list_form, looking, mode_at, mode_form, mode_of, name_at, name_form, names_of, number_at, one_subject, optional, process_of, required, rights_at, rights_form, sets_of, short_form, subject_at, subject_form, whole_form};
 ghost use Rattle.pm_model.specs.Words.{key_text};
 ghost use Rattle.pm_json.specs.Reads.{Reads};
 
 use crate::errors::ReadError;
-use pm_model::{BadLine, Field, Key, Memory, Mode, Name, NameList, Subject};
+use pm_model::{BadLine, Key, Memory, Mode, Name, NameList, Subject};
 use serde_json::Value;
 use std::alloc::Global;
 
@@ -25,11 +25,11 @@ fn name(value: &Value) -> Option<Name>
 }
 
 /// The name at the key.
-pub(crate) fn name_at(field: Field, key: Key, value: &Value) -> Result<Name, BadLine>
-    ensures { result ≡ name_at (looking (view value.now)) field key }
+pub(crate) fn name_at(key: Key, value: &Value) -> Result<Name, BadLine>
+    ensures { result ≡ name_at (looking (view value.now)) key }
 {
     match value.get(key.text()).and_then(name) {
-        None => Err(BadLine::BadField(field)),
+        None => Err(BadLine::BadField(key)),
         Some(name) => Ok(name),
     }
 }
@@ -49,11 +49,11 @@ fn short_if(key: Key, value: &Value) -> Option<u32>
 }
 
 /// The number of 32 bits at the key.
-pub(crate) fn number_at(field: Field, key: Key, value: &Value) -> Result<u32, BadLine>
-    ensures { result ≡ number_at (looking (view value.now)) field key }
+pub(crate) fn number_at(key: Key, value: &Value) -> Result<u32, BadLine>
+    ensures { result ≡ number_at (looking (view value.now)) key }
 {
     match short_if(key, value) {
-        None => Err(BadLine::BadField(field)),
+        None => Err(BadLine::BadField(key)),
         Some(n) => Ok(n),
     }
 }
@@ -62,17 +62,17 @@ pub(crate) fn number_at(field: Field, key: Key, value: &Value) -> Result<u32, Ba
 pub(crate) fn process(value: &Value) -> Result<u32, BadLine>
     ensures { result ≡ process_of (looking (view value.now)) }
 {
-    number_at(Field::Proc, Key::Proc, value)
+    number_at(Key::Proc, value)
 }
 
 /// The number of 64 bits that was found, which may be left out.
-pub(crate) fn optional_whole(field: Field, found: Option<&Value>) -> Result<Option<u64>, BadLine>
-    ensures { result ≡ optional field (option_map (λ v. view v.now) found.entry) whole_form }
+pub(crate) fn optional_whole(key: Key, found: Option<&Value>) -> Result<Option<u64>, BadLine>
+    ensures { result ≡ optional key (option_map (λ v. view v.now) found.entry) whole_form }
 {
     match found {
         None => Ok(None),
         Some(value) => match value.as_u64() {
-            None => Err(BadLine::BadField(field)),
+            None => Err(BadLine::BadField(key)),
             Some(n) => Ok(Some(n)),
         },
     }
@@ -100,14 +100,14 @@ fn list(alloc: Global, value: &Value) -> Result<Option<NameList>, Memory>
     }
 }
 
-fn list_at(alloc: Global, field: Field, key: Key, value: &Value) -> Result<NameList, ReadError>
-    ensures { Reads result (required field (option_and_then list_form (looking (view value.now) (key_text key)))) }
+fn list_at(alloc: Global, key: Key, value: &Value) -> Result<NameList, ReadError>
+    ensures { Reads result (required key (option_and_then list_form (looking (view value.now) (key_text key)))) }
 {
     let Some(found) = value.get(key.text()) else {
-        return Err(ReadError::Bad(BadLine::BadField(field)));
+        return Err(ReadError::Bad(BadLine::BadField(key)));
     };
     match list(alloc, found)? {
-        None => Err(ReadError::Bad(BadLine::BadField(field))),
+        None => Err(ReadError::Bad(BadLine::BadField(key))),
         Some(names) => Ok(names),
     }
 }
@@ -119,8 +119,8 @@ fn contains(list: &[Name], name: &Name) -> bool
 }
 
 // The names in order, each at its first place alone.
-fn unlike(alloc: Global, names: &[Name]) -> Result<NameList, Memory>
-    ensures { IfOk result (λ l. l ≡ unlike [] names.now) }
+fn distinct(alloc: Global, names: &[Name]) -> Result<NameList, Memory>
+    ensures { IfOk result (λ l. l ≡ distinct names.now) }
 {
     let mut list = NameList::new(alloc);
     for name in names {
@@ -140,7 +140,7 @@ fn rights(alloc: Global, value: &Value) -> Result<Option<NameList>, Memory>
             if names.len() == 0 || names.len() > MOST_RIGHTS {
                 return Ok(None);
             }
-            Ok(Some(unlike(alloc, names.as_slice())?))
+            Ok(Some(distinct(alloc, names.as_slice())?))
         }
     }
 }
@@ -150,10 +150,10 @@ pub(crate) fn rights_at(alloc: Global, value: &Value) -> Result<NameList, ReadEr
     ensures { Reads result (rights_at (looking (view value.now))) }
 {
     let Some(found) = value.get(Key::Rights.text()) else {
-        return Err(ReadError::Bad(BadLine::BadField(Field::Rights)));
+        return Err(ReadError::Bad(BadLine::BadField(Key::Rights)));
     };
     match rights(alloc, found)? {
-        None => Err(ReadError::Bad(BadLine::BadField(Field::Rights))),
+        None => Err(ReadError::Bad(BadLine::BadField(Key::Rights))),
         Some(list) => Ok(list),
     }
 }
@@ -161,9 +161,9 @@ pub(crate) fn rights_at(alloc: Global, value: &Value) -> Result<NameList, ReadEr
 fn exc_at(alloc: Global, inc: &NameList, value: &Value) -> Result<NameList, ReadError>
     ensures { Reads result (exc_at (looking (view value.now)) inc.now) }
 {
-    let exc = list_at(alloc, Field::Exc, Key::Exc, value)?;
+    let exc = list_at(alloc, Key::Exc, value)?;
     if inc.len().saturating_add(exc.len()) > MOST_IN_SETS {
-        return Err(ReadError::Bad(BadLine::BadField(Field::Exc)));
+        return Err(ReadError::Bad(BadLine::BadField(Key::Exc)));
     }
     Ok(exc)
 }
@@ -172,7 +172,7 @@ fn exc_at(alloc: Global, inc: &NameList, value: &Value) -> Result<NameList, Read
 pub(crate) fn sets(alloc: Global, value: &Value) -> Result<(NameList, NameList), ReadError>
     ensures { Reads result (sets_of (looking (view value.now))) }
 {
-    let inc = list_at(alloc, Field::Inc, Key::Inc, value)?;
+    let inc = list_at(alloc, Key::Inc, value)?;
     let exc = exc_at(alloc, &inc, value)?;
     Ok((inc, exc))
 }
@@ -206,7 +206,7 @@ pub(crate) fn subject_at(value: &Value) -> Result<Subject<Name, u32>, BadLine>
     ensures { result ≡ subject_at (looking (view value.now)) }
 {
     match value.get(Key::Subject.text()).and_then(subject) {
-        None => Err(BadLine::BadField(Field::Subject)),
+        None => Err(BadLine::BadField(Key::Subject)),
         Some(subject) => Ok(subject),
     }
 }
@@ -233,7 +233,7 @@ pub(crate) fn mode_at(value: &Value) -> Result<Mode, BadLine>
     ensures { result ≡ mode_at (looking (view value.now)) }
 {
     match value.get(Key::Mode.text()).and_then(mode) {
-        None => Err(BadLine::BadField(Field::Mode)),
+        None => Err(BadLine::BadField(Key::Mode)),
         Some(mode) => Ok(mode),
     }
 }

@@ -1,4 +1,5 @@
-//! Laws of lines: how long a reply's can be, that it has one meaning, and that the words of commands are theirs alone.
+//! Laws of lines: how long a reply's can be, that it has one meaning, that the words of commands are theirs alone,
+//! and that a command has the lists of its line.
 
 ghost use Rattle.std.specs.Prelude.{ℕ, List, Option, IsSome, Some, length, ◌≡◌, ◌≤◌};
 ghost use Rattle.serde_json.specs.Data.{Data};
@@ -9,13 +10,17 @@ ghost use Rattle.pm_model.specs.declared.requests.Change.TheVariants.{DefineRigh
 ghost use Rattle.pm_model.specs.declared.replies.Refusal.TheVariants.{NameTaken};
 ghost use Rattle.pm_model.specs.Text.{text};
 ghost use Rattle.pm_model.specs.declared.replies.Reply.{Reply};
+ghost use Rattle.pm_model.specs.declared.requests.Command.{Command};
+ghost use Rattle.pm_json.specs.Lists.{AsksFor, HasLists, listed};
 ghost use Rattle.pm_json.specs.Printable.{IsPrintable};
 ghost use Rattle.pm_json.specs.Shown.{shown};
+
+use crate::print::LONGEST_REPLY;
 
 /// The line of a reply has at most 1,024 bytes with its line feed.
 pub fn reply_is_short()
     ensures { (id : Option ℕ) (version : ℕ) (names : ℕ → List ℕ) (reply : Reply)
-        → IsPrintable id version names reply → length (text id version names reply) ≤ 1024 }
+        → IsPrintable id version names reply → length (text id version names reply) ≤ LONGEST_REPLY }
 {}
 
 /// Two replies with one line show the same, with one id and at one version: they are one reply, but
@@ -27,8 +32,16 @@ pub fn line_has_one_meaning()
         → (id ≡ other_id) × (version ≡ other_version) × (shown names reply ≡ shown other_names other) }
 {}
 
-/// No right can be defined by the word of a command, whatever the graph: what a line says under `cmd` is
-/// never the name of a right.
+/// No right can be defined by the word of a command, whatever the graph. Ten of the opening's rights have
+/// such names: they are what these commands ask for.
 pub fn command_word_is_taken()
     ensures { (G : Graph) (look : List ℕ → Option Data) (word : List ℕ) → IsSome (row_of look word) → refusal G (DefineRight word) ≡ Some NameTaken }
+{}
+
+/// A command that a line asks for has the line's lists: its rights are the set of the names listed there,
+/// which are 1 to 32, each at its first place; and its two sets, if it has them, are listed so and have at
+/// most 32 names together.
+pub fn lists_are_kept()
+    ensures { (line : List ℕ) (after : Option ℕ) (process : ℕ) (command : Command)
+        → AsksFor line after process command → HasLists (listed line) command }
 {}

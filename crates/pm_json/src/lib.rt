@@ -11,6 +11,6 @@ mod rows;
 #[cfg(test)]
 mod tests;
 
-pub use laws::{command_word_is_taken, line_has_one_meaning, reply_is_short};
-pub use print::{print_bad, print_reply};
+pub use laws::{command_word_is_taken, line_has_one_meaning, lists_are_kept, reply_is_short};
+pub use print::{LONGEST_REPLY, print_bad, print_reply};
 pub use read::read_request;

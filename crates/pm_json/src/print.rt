@@ -1,42 +1,18 @@
 //! The line of a reply, a function for each row of the table of replies.
-ghost use Rattle.std.specs.Prelude.{◌≡◌, ◌++◌, ◌∷◌, [], ◌≤◌, ◌+◌, length, decimal, codes, take, vec_len, vec_capacity, IsTrue, OnOk, OnErr, IsOk};
+ghost use Rattle.std.specs.Prelude.{◌≡◌, ◌++◌, ◌∷◌, [], ◌≤◌, ◌+◌, ◌*◌, decimal, codes, take, vec_len, vec_capacity, IsTrue, OnOk, OnErr, IsOk};
 ghost use Rattle.pm_model.specs.Nameable.{IsNameable, IsReasonNameable, IsRefusalNameable};
-ghost use Rattle.pm_model.specs.Text.{text, bad_text, front, bad_front, no_front, ok_front, done_front, made_front, process_shown, session_shown, unknown_front, full_front, denied_front, capability_front, refusal_front, class_of, prohibition_of, field_word, table_word};
+ghost use Rattle.pm_model.specs.Text.{text, bad_text, front, bad_front, no_front, ok_front, done_front, made_front, process_shown, session_shown, unknown_front, full_front, denied_front, capability_front, refusal_front, class_of, prohibition_of, table_word};
 ghost use Rattle.pm_model.specs.Words.{key_text};
-ghost use Rattle.pm_json.specs.Growth.{Appended};
+ghost use Rattle.pm_json.specs.Growth.{Appended, front_most, number_most, text_most};
 ghost use Rattle.pm_json.specs.Members.{keyed, trailing, trailing_all};
 
-use crate::put::{put, put_decimal, put_key, put_name, put_number_if, put_word};
+use crate::put::{put, put_decimal, put_key, put_key_text, put_name, put_number_if, put_word};
 use pm_model::{
-    BadLine, ElementId, Field, Head, Key, Memory, Name, NameOf, Reason, Refusal, Reply, Shown,
-    Table, Word,
+    BadLine, ElementId, Head, Key, Memory, Name, NameOf, Reason, Refusal, Reply, Shown, Table, Word,
 };
 
-fn field_word(field: Field) -> Word
-    ensures { result ≡ field_word field }
-{
-    match field {
-        Field::Id => Word::Id,
-        Field::After => Word::After,
-        Field::Proc => Word::Proc,
-        Field::Process => Word::Process,
-        Field::Session => Word::Session,
-        Field::Name => Word::Name,
-        Field::Into => Word::Into,
-        Field::From => Word::From,
-        Field::To => Word::To,
-        Field::Ua => Word::Ua,
-        Field::At => Word::At,
-        Field::User => Word::User,
-        Field::Target => Word::Target,
-        Field::Right => Word::Right,
-        Field::Rights => Word::Rights,
-        Field::Inc => Word::Inc,
-        Field::Exc => Word::Exc,
-        Field::Mode => Word::Mode,
-        Field::Subject => Word::Subject,
-    }
-}
+/// How many bytes the line of a reply has at most, with its line feed.
+pub const LONGEST_REPLY: usize = 1024;
 
 fn table_word(table: Table) -> Word
     ensures { result ≡ table_word table }
@@ -55,7 +31,7 @@ fn table_word(table: Table) -> Word
 
 // `id` and `no`.
 fn put_no(out: &mut Vec<u8>, head: &Head, why: Word) -> Result<(), Memory>
-    ensures { Appended out.old out.new (trailing_all (no_front head.now why)) result }
+    ensures { Appended out.old out.new (trailing_all (no_front head.now why)) (number_most + text_most) result }
 {
     put_number_if(out, Key::Id, head.id)?;
     put_word(out, Key::No, why)
@@ -63,7 +39,7 @@ fn put_no(out: &mut Vec<u8>, head: &Head, why: Word) -> Result<(), Memory>
 
 // `id` and `ok`.
 fn put_ok(out: &mut Vec<u8>, head: &Head, what: Word) -> Result<(), Memory>
-    ensures { Appended out.old out.new (trailing_all (ok_front head.now what)) result }
+    ensures { Appended out.old out.new (trailing_all (ok_front head.now what)) (number_most + text_most) result }
 {
     put_number_if(out, Key::Id, head.id)?;
     put_word(out, Key::Ok, what)
@@ -89,29 +65,29 @@ fn session_shown(shown: Shown) -> Option<u64>
 
 // What a request that is accepted has made.
 fn put_made(out: &mut Vec<u8>, shown: Shown) -> Result<(), Memory>
-    ensures { Appended out.old out.new (trailing_all (made_front shown)) result }
+    ensures { Appended out.old out.new (trailing_all (made_front shown)) (number_most + number_most) result }
 {
     put_number_if(out, Key::Process, process_shown(shown))?;
     put_number_if(out, Key::Session, session_shown(shown))
 }
 
 fn put_done(out: &mut Vec<u8>, head: &Head, shown: Shown) -> Result<(), Memory>
-    ensures { Appended out.old out.new (trailing_all (done_front head.now shown)) result }
+    ensures { Appended out.old out.new (trailing_all (done_front head.now shown)) front_most result }
 {
     put_number_if(out, Key::Id, head.id)?;
     put_word(out, Key::Ok, Word::Done)?;
     put_made(out, shown)
 }
 
-fn put_bad_field(out: &mut Vec<u8>, head: &Head, field: Field) -> Result<(), Memory>
-    ensures { Appended out.old out.new (trailing_all (bad_front head.now (BadLine.BadField field))) result }
+fn put_bad_field(out: &mut Vec<u8>, head: &Head, field: Key) -> Result<(), Memory>
+    ensures { Appended out.old out.new (trailing_all (bad_front head.now (BadLine.BadField field))) front_most result }
 {
-    put_word(out, Key::Field, field_word(field))?;
+    put_key_text(out, Key::Field, field)?;
     put_no(out, head, Word::BadField)
 }
 
 fn put_bad(out: &mut Vec<u8>, head: &Head, bad: &BadLine) -> Result<(), Memory>
-    ensures { Appended out.old out.new (trailing_all (bad_front head.now bad.now)) result }
+    ensures { Appended out.old out.new (trailing_all (bad_front head.now bad.now)) front_most result }
 {
     match bad {
         BadLine::TooLong => put_no(out, head, Word::TooLong),
@@ -123,7 +99,7 @@ fn put_bad(out: &mut Vec<u8>, head: &Head, bad: &BadLine) -> Result<(), Memory>
 }
 
 fn put_unknown_name(out: &mut Vec<u8>, head: &Head, name: &Name) -> Result<(), Memory>
-    ensures { Appended out.old out.new (trailing_all (unknown_front head.now name.now)) result }
+    ensures { Appended out.old out.new (trailing_all (unknown_front head.now name.now)) front_most result }
 {
     put_number_if(out, Key::Id, head.id)?;
     put_name(out, Key::Name, name)?;
@@ -131,7 +107,7 @@ fn put_unknown_name(out: &mut Vec<u8>, head: &Head, name: &Name) -> Result<(), M
 }
 
 fn put_full(out: &mut Vec<u8>, head: &Head, table: Table) -> Result<(), Memory>
-    ensures { Appended out.old out.new (trailing_all (full_front head.now table)) result }
+    ensures { Appended out.old out.new (trailing_all (full_front head.now table)) front_most result }
 {
     put_number_if(out, Key::Id, head.id)?;
     put_word(out, Key::No, Word::Full)?;
@@ -142,7 +118,7 @@ fn put_full(out: &mut Vec<u8>, head: &Head, table: Table) -> Result<(), Memory>
 #[tactic(auto, unfolding(crate::specs::Members::trailing))]
 fn put_class<N: NameOf>(out: &mut Vec<u8>, names: &N, reason: &Reason) -> Result<(), Memory>
     requires { IsReasonNameable (N.named names.now) reason.now }
-    ensures { Appended out.old out.new (trailing (key_text Key.Class) (class_of (N.name_at names.now) reason.now)) result }
+    ensures { Appended out.old out.new (trailing (key_text Key.Class) (class_of (N.name_at names.now) reason.now)) text_most result }
 {
     match reason {
         Reason::Class(class) => put_name(out, Key::Class, &names.name_of(*class)),
@@ -153,7 +129,7 @@ fn put_class<N: NameOf>(out: &mut Vec<u8>, names: &N, reason: &Reason) -> Result
 // The prohibition of a denial, where it is one.
 #[tactic(auto, unfolding(crate::specs::Members::trailing))]
 fn put_prohibition(out: &mut Vec<u8>, reason: &Reason) -> Result<(), Memory>
-    ensures { Appended out.old out.new (trailing (key_text Key.Prohibition) (prohibition_of reason.now)) result }
+    ensures { Appended out.old out.new (trailing (key_text Key.Prohibition) (prohibition_of reason.now)) text_most result }
 {
     match reason {
         Reason::Class(_) => Ok(()),
@@ -168,7 +144,7 @@ fn put_capability(
     right: &Name,
     target: &Name,
 ) -> Result<(), Memory>
-    ensures { Appended out.old out.new (trailing_all (capability_front reason.now right.now target.now)) result }
+    ensures { Appended out.old out.new (trailing_all (capability_front reason.now right.now target.now)) (3 * text_most) result }
 {
     put_prohibition(out, reason)?;
     put_name(out, Key::Right, right)?;
@@ -185,7 +161,7 @@ fn put_denied<N: NameOf>(
 ) -> Result<(), Memory>
     requires target { IsTrue (N.named names.now target) }
     requires reason { IsReasonNameable (N.named names.now) reason.now }
-    ensures { Appended out.old out.new (trailing_all (denied_front head.now (N.name_at names.now) right.now target reason.now)) result }
+    ensures { Appended out.old out.new (trailing_all (denied_front head.now (N.name_at names.now) right.now target reason.now)) front_most result }
 {
     put_class(out, names, reason)?;
     put_number_if(out, Key::Id, head.id)?;
@@ -200,7 +176,7 @@ fn put_refusal<N: NameOf>(
     why: &Refusal,
 ) -> Result<(), Memory>
     requires { IsRefusalNameable (N.named names.now) why.now }
-    ensures { Appended out.old out.new (trailing_all (refusal_front head.now (N.name_at names.now) why.now)) result }
+    ensures { Appended out.old out.new (trailing_all (refusal_front head.now (N.name_at names.now) why.now)) front_most result }
 {
     match why {
         Refusal::UnknownProcess => put_no(out, head, Word::UnknownProcess),
@@ -232,7 +208,7 @@ fn put_front<N: NameOf>(
     reply: &Reply,
 ) -> Result<(), Memory>
     requires { IsNameable (N.named names.now) reply.now }
-    ensures { Appended out.old out.new (trailing_all (front head.now (N.name_at names.now) reply.now)) result }
+    ensures { Appended out.old out.new (trailing_all (front head.now (N.name_at names.now) reply.now)) front_most result }
 {
     match reply {
         Reply::Done { shown } => put_done(out, head, *shown),
@@ -244,7 +220,7 @@ fn put_front<N: NameOf>(
 }
 
 fn put_version(out: &mut Vec<u8>, version: u64) -> Result<(), Memory>
-    ensures { Appended out.old out.new (keyed (key_text Key.V) ++ (decimal version ++ codes "}\n")) result }
+    ensures { Appended out.old out.new (keyed (key_text Key.V) ++ (decimal version ++ codes "}\n")) 89 result }
 {
     put_key(out, Key::V)?;
     put_decimal(out, version)?;
@@ -259,7 +235,7 @@ fn put_line_parts<N: NameOf>(
     reply: &Reply,
 ) -> Result<(), Memory>
     requires { IsNameable (N.named names.now) reply.now }
-    ensures { Appended out.old out.new (codes "{" ++ (trailing_all (front head.now (N.name_at names.now) reply.now) ++ (keyed (key_text Key.V) ++ (decimal version ++ codes "}\n")))) result }
+    ensures { Appended out.old out.new (codes "{" ++ (trailing_all (front head.now (N.name_at names.now) reply.now) ++ (keyed (key_text Key.V) ++ (decimal version ++ codes "}\n")))) LONGEST_REPLY result }
 {
     put(out, b"{")?;
     put_front(out, head, names, reply)?;
@@ -274,13 +250,13 @@ fn put_line<N: NameOf>(
     reply: &Reply,
 ) -> Result<(), Memory>
     requires { IsNameable (N.named names.now) reply.now }
-    ensures { Appended out.old out.new (text id version (N.name_at names.now) reply.now) result }
+    ensures { Appended out.old out.new (text id version (N.name_at names.now) reply.now) LONGEST_REPLY result }
 {
     put_line_parts(out, &Head { id }, version, names, reply)
 }
 
 fn put_bad_parts(out: &mut Vec<u8>, head: &Head, version: u64, bad: &BadLine) -> Result<(), Memory>
-    ensures { Appended out.old out.new (codes "{" ++ (trailing_all (bad_front head.now bad.now) ++ (keyed (key_text Key.V) ++ (decimal version ++ codes "}\n")))) result }
+    ensures { Appended out.old out.new (codes "{" ++ (trailing_all (bad_front head.now bad.now) ++ (keyed (key_text Key.V) ++ (decimal version ++ codes "}\n")))) LONGEST_REPLY result }
 {
     put(out, b"{")?;
     put_bad(out, head, bad)?;
@@ -293,7 +269,7 @@ fn put_bad_line(
     version: u64,
     bad: &BadLine,
 ) -> Result<(), Memory>
-    ensures { Appended out.old out.new (bad_text id version bad.now) result }
+    ensures { Appended out.old out.new (bad_text id version bad.now) LONGEST_REPLY result }
 {
     put_bad_parts(out, &Head { id }, version, bad)
 }
@@ -317,7 +293,7 @@ fn whole_or_none(
 }
 
 /// Appends the line of the reply, its line feed included. On Memory `out` is as before; with room
-/// for the line it is Ok. `names` is asked for each element that the reply tells by its number.
+/// for 1,024 bytes it is Ok. `names` is asked for each element that the reply tells by its number.
 pub fn print_reply<N: NameOf>(
     id: Option<u64>,
     version: u64,
@@ -328,7 +304,7 @@ pub fn print_reply<N: NameOf>(
     requires { IsNameable (N.named names.now) reply.now }
     ensures ok { OnOk result (out.new.items ≡ out.old.items ++ text id version (N.name_at names.now) reply.now) }
     ensures err { OnErr result (out.new.items ≡ out.old.items) }
-    ensures room { vec_len out.old + length (text id version (N.name_at names.now) reply.now) ≤ vec_capacity out.old → IsOk result }
+    ensures room { vec_len out.old + LONGEST_REPLY ≤ vec_capacity out.old → IsOk result }
     ensures capacity { vec_capacity out.old ≤ vec_capacity out.new }
 {
     let before = out.len();
@@ -345,7 +321,7 @@ pub fn print_bad(
 ) -> Result<(), Memory>
     ensures ok { OnOk result (out.new.items ≡ out.old.items ++ bad_text id version bad.now) }
     ensures err { OnErr result (out.new.items ≡ out.old.items) }
-    ensures room { vec_len out.old + length (bad_text id version bad.now) ≤ vec_capacity out.old → IsOk result }
+    ensures room { vec_len out.old + LONGEST_REPLY ≤ vec_capacity out.old → IsOk result }
     ensures capacity { vec_capacity out.old ≤ vec_capacity out.new }
 {
     let before = out.len();

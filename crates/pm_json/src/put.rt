@@ -1,12 +1,11 @@
 //! Members of an object, one after another, at the end of a vector.
-ghost use Rattle.std.specs.Prelude.{◌≡◌, ◌++◌, ◌∷◌, [], List, ℕ, ◌≤◌, ◌+◌, length, decimal, true, Some, option_map};
-ghost use Rattle.std.specs.List.{list_all};
+ghost use Rattle.std.specs.Prelude.{◌≡◌, ◌++◌, ◌∷◌, [], List, ℕ, ◌≤◌, ◌+◌, length, decimal, IsTrue, Some, option_map};
 ghost use Rattle.json.specs.Print.{quoted};
-ghost use Rattle.pm_model.specs.Name.{is_name_byte};
+ghost use Rattle.pm_model.specs.Name.{is_name};
 ghost use Rattle.pm_model.specs.Object.{whole, whole_if, texted};
 ghost use Rattle.pm_model.specs.Text.{said};
 ghost use Rattle.pm_model.specs.Words.{key_text};
-ghost use Rattle.pm_json.specs.Growth.{Appended};
+ghost use Rattle.pm_json.specs.Growth.{Appended, number_most, text_most};
 ghost use Rattle.pm_json.specs.Members.{keyed, trailing};
 
 use itoa::Buffer;
@@ -14,40 +13,41 @@ use pm_model::{Key, Memory, Name, Word};
 
 /// Appends the bytes.
 pub(crate) fn put(out: &mut Vec<u8>, text: &[u8]) -> Result<(), Memory>
-    ensures { Appended out.old out.new text.now result }
+    ensures { Appended out.old out.new text.now (length text.now) result }
 {
     out.extend_from_slice(text)?;
     Ok(())
 }
 
 /// Appends the number.
+#[tactic(auto, using(crate::proofs::Texts::decimal_size))]
 pub(crate) fn put_decimal(out: &mut Vec<u8>, n: u64) -> Result<(), Memory>
-    ensures { Appended out.old out.new (decimal n) result }
+    ensures { Appended out.old out.new (decimal n) 20 result }
 {
     let mut buffer = Buffer::new();
     put(out, buffer.format(n).as_bytes())
 }
 
 fn put_between_quotes(out: &mut Vec<u8>, text: &[u8]) -> Result<(), Memory>
-    ensures { Appended out.old out.new (34 ∷ (text.now ++ 34 ∷ [])) result }
+    ensures { Appended out.old out.new (34 ∷ (text.now ++ 34 ∷ [])) (length text.now + 2) result }
 {
     put(out, b"\"")?;
     put(out, text)?;
     put(out, b"\"")
 }
 
-/// Appends the text in quotes. It needs no escape.
+/// Appends the text in quotes, which has the form of a name and needs no escape.
 fn put_quoted(out: &mut Vec<u8>, text: &[u8]) -> Result<(), Memory>
-    requires { list_all is_name_byte text.now ≡ true }
-    ensures { Appended out.old out.new (quoted text.now) result }
+    requires { IsTrue (is_name text.now) }
+    ensures { Appended out.old out.new (quoted text.now) 66 result }
 {
     put_between_quotes(out, text)
 }
 
 /// Appends the key and its colon.
-#[tactic(auto, unfolding(crate::specs::Members::keyed))]
+#[tactic(auto, using(crate::proofs::Texts::key_name), unfolding(crate::specs::Members::keyed))]
 pub(crate) fn put_key(out: &mut Vec<u8>, key: Key) -> Result<(), Memory>
-    ensures { Appended out.old out.new (keyed (key_text key)) result }
+    ensures { Appended out.old out.new (keyed (key_text key)) 67 result }
 {
     put_quoted(out, key.text().as_bytes())?;
     put(out, b":")
@@ -56,7 +56,7 @@ pub(crate) fn put_key(out: &mut Vec<u8>, key: Key) -> Result<(), Memory>
 /// Appends a member that is a number, and a comma.
 #[tactic(auto, unfolding(crate::specs::Members::trailing))]
 fn put_number(out: &mut Vec<u8>, key: Key, n: u64) -> Result<(), Memory>
-    ensures { Appended out.old out.new (trailing (key_text key) (whole n)) result }
+    ensures { Appended out.old out.new (trailing (key_text key) (whole n)) number_most result }
 {
     put_key(out, key)?;
     put_decimal(out, n)?;
@@ -66,7 +66,7 @@ fn put_number(out: &mut Vec<u8>, key: Key, n: u64) -> Result<(), Memory>
 /// Appends a member that is a number, and a comma, where there is one.
 #[tactic(auto, unfolding(crate::specs::Members::trailing))]
 pub(crate) fn put_number_if(out: &mut Vec<u8>, key: Key, n: Option<u64>) -> Result<(), Memory>
-    ensures { Appended out.old out.new (trailing (key_text key) (whole_if n)) result }
+    ensures { Appended out.old out.new (trailing (key_text key) (whole_if n)) number_most result }
 {
     match n {
         None => Ok(()),
@@ -74,11 +74,11 @@ pub(crate) fn put_number_if(out: &mut Vec<u8>, key: Key, n: Option<u64>) -> Resu
     }
 }
 
-/// Appends a member that is a text with no escape, and a comma.
+/// Appends a member that is a text in the form of a name, and a comma.
 #[tactic(auto, unfolding(crate::specs::Members::trailing))]
 fn put_text(out: &mut Vec<u8>, key: Key, text: &[u8]) -> Result<(), Memory>
-    requires { list_all is_name_byte text.now ≡ true }
-    ensures { Appended out.old out.new (trailing (key_text key) (texted text.now)) result }
+    requires { IsTrue (is_name text.now) }
+    ensures { Appended out.old out.new (trailing (key_text key) (texted text.now)) text_most result }
 {
     put_key(out, key)?;
     put_quoted(out, text)?;
@@ -86,15 +86,24 @@ fn put_text(out: &mut Vec<u8>, key: Key, text: &[u8]) -> Result<(), Memory>
 }
 
 /// Appends a member that is a fixed text, and a comma.
+#[tactic(auto, using(crate::proofs::Texts::word_name))]
 pub(crate) fn put_word(out: &mut Vec<u8>, key: Key, word: Word) -> Result<(), Memory>
-    ensures { Appended out.old out.new (trailing (key_text key) (said word)) result }
+    ensures { Appended out.old out.new (trailing (key_text key) (said word)) text_most result }
 {
     put_text(out, key, word.text().as_bytes())
 }
 
+/// Appends a member that is the text of a key, and a comma.
+#[tactic(auto, using(crate::proofs::Texts::key_name))]
+pub(crate) fn put_key_text(out: &mut Vec<u8>, key: Key, named: Key) -> Result<(), Memory>
+    ensures { Appended out.old out.new (trailing (key_text key) (texted (key_text named))) text_most result }
+{
+    put_text(out, key, named.text().as_bytes())
+}
+
 /// Appends a member that is a name, and a comma.
 pub(crate) fn put_name(out: &mut Vec<u8>, key: Key, name: &Name) -> Result<(), Memory>
-    ensures { Appended out.old out.new (trailing (key_text key) (texted name.now)) result }
+    ensures { Appended out.old out.new (trailing (key_text key) (texted name.now)) text_most result }
 {
     put_text(out, key, name.bytes())
 }

@@ -9,15 +9,15 @@ ghost use Rattle.pm_json.specs.Reads.{Reads};
 use crate::errors::ReadError;
 use crate::forms::optional_whole;
 use crate::rows::row;
-use pm_model::{Asked, BadLine, Body, Field, Key, Memory, Request, What};
+use pm_model::{Asked, BadLine, Body, Key, Memory, Request, What};
 use serde_json::Value;
 use std::alloc::Global;
 
 fn with_head(row: Result<Body, ReadError>, value: &Value) -> Result<Request, ReadError>
     ensures { (r : Result Body BadLine) → Reads row r → Reads result (with_head (looking (view value.now)) r) }
 {
-    optional_whole(Field::Id, value.get(Key::Id.text()))?;
-    let after = optional_whole(Field::After, value.get(Key::After.text()))?;
+    optional_whole(Key::Id, value.get(Key::Id.text()))?;
+    let after = optional_whole(Key::After, value.get(Key::After.text()))?;
     let body = row?;
     Ok(Request { after, body })
 }

@@ -8,57 +8,57 @@ ghost use Rattle.pm_json.specs.Reads.{Reads, ReadsRow};
 
 use crate::errors::ReadError;
 use crate::forms::{mode_at, name_at, number_at, process, rights_at, sets, subject_at};
-use pm_model::{BadLine, Body, Command, Field, Key, Kind, Name};
+use pm_model::{BadLine, Body, Command, Key, Kind, Name};
 use serde_json::Value;
 use std::alloc::Global;
 
 fn open_session(value: &Value) -> Result<Body, ReadError>
     ensures { Reads result (open_session_of (looking (view value.now))) }
 {
-    let user = name_at(Field::User, Key::User, value)?;
+    let user = name_at(Key::User, value)?;
     Ok(Body::OpenSession { user })
 }
 
 fn close_session(value: &Value) -> Result<Body, ReadError>
     ensures { Reads result (close_session_of (looking (view value.now))) }
 {
-    let session = number_at(Field::Session, Key::Session, value)?;
+    let session = number_at(Key::Session, value)?;
     Ok(Body::CloseSession { session })
 }
 
 fn start_process(value: &Value) -> Result<Body, ReadError>
     ensures { Reads result (start_process_of (looking (view value.now))) }
 {
-    let session = number_at(Field::Session, Key::Session, value)?;
+    let session = number_at(Key::Session, value)?;
     Ok(Body::StartProcess { session })
 }
 
 fn end_process(value: &Value) -> Result<Body, ReadError>
     ensures { Reads result (end_process_of (looking (view value.now))) }
 {
-    let process = number_at(Field::Process, Key::Process, value)?;
+    let process = number_at(Key::Process, value)?;
     Ok(Body::EndProcess { process })
 }
 
 fn create_pc(value: &Value) -> Result<Command, BadLine>
     ensures { result ≡ create_pc_of (looking (view value.now)) }
 {
-    let name = name_at(Field::Name, Key::Name, value)?;
+    let name = name_at(Key::Name, value)?;
     Ok(Command::CreatePc { name })
 }
 
 fn create(kind: Kind, value: &Value) -> Result<Command, BadLine>
     ensures { result ≡ create_of (looking (view value.now)) kind }
 {
-    let name = name_at(Field::Name, Key::Name, value)?;
-    let into = name_at(Field::Into, Key::Into, value)?;
+    let name = name_at(Key::Name, value)?;
+    let into = name_at(Key::Into, value)?;
     Ok(Command::Create { kind, name, into })
 }
 
 fn delete(value: &Value) -> Result<Command, BadLine>
     ensures { result ≡ delete_of (looking (view value.now)) }
 {
-    let name = name_at(Field::Name, Key::Name, value)?;
+    let name = name_at(Key::Name, value)?;
     Ok(Command::Delete { name })
 }
 
@@ -66,8 +66,8 @@ fn delete(value: &Value) -> Result<Command, BadLine>
 fn ends(value: &Value) -> Result<(Name, Name), BadLine>
     ensures { result ≡ ends_of (looking (view value.now)) }
 {
-    let from = name_at(Field::From, Key::From, value)?;
-    let to = name_at(Field::To, Key::To, value)?;
+    let from = name_at(Key::From, value)?;
+    let to = name_at(Key::To, value)?;
     Ok((from, to))
 }
 
@@ -88,24 +88,24 @@ fn deassign(value: &Value) -> Result<Command, BadLine>
 fn associate(alloc: Global, value: &Value) -> Result<Command, ReadError>
     ensures { Reads result (associate_of (looking (view value.now))) }
 {
-    let ua = name_at(Field::Ua, Key::Ua, value)?;
+    let ua = name_at(Key::Ua, value)?;
     let rights = rights_at(alloc, value)?;
-    let at = name_at(Field::At, Key::At, value)?;
+    let at = name_at(Key::At, value)?;
     Ok(Command::Associate { ua, rights, at })
 }
 
 fn dissociate(value: &Value) -> Result<Command, BadLine>
     ensures { result ≡ dissociate_of (looking (view value.now)) }
 {
-    let ua = name_at(Field::Ua, Key::Ua, value)?;
-    let at = name_at(Field::At, Key::At, value)?;
+    let ua = name_at(Key::Ua, value)?;
+    let at = name_at(Key::At, value)?;
     Ok(Command::Dissociate { ua, at })
 }
 
 fn prohibit(alloc: Global, value: &Value) -> Result<Command, ReadError>
     ensures { Reads result (prohibit_of (looking (view value.now))) }
 {
-    let name = name_at(Field::Name, Key::Name, value)?;
+    let name = name_at(Key::Name, value)?;
     let subject = subject_at(value)?;
     let rights = rights_at(alloc, value)?;
     let (inc, exc) = sets(alloc, value)?;
@@ -123,14 +123,14 @@ fn prohibit(alloc: Global, value: &Value) -> Result<Command, ReadError>
 fn lift(value: &Value) -> Result<Command, BadLine>
     ensures { result ≡ lift_of (looking (view value.now)) }
 {
-    let name = name_at(Field::Name, Key::Name, value)?;
+    let name = name_at(Key::Name, value)?;
     Ok(Command::Lift { name })
 }
 
 fn define_right(value: &Value) -> Result<Command, BadLine>
     ensures { result ≡ define_right_of (looking (view value.now)) }
 {
-    let name = name_at(Field::Name, Key::Name, value)?;
+    let name = name_at(Key::Name, value)?;
     Ok(Command::DefineRight { name })
 }
 
@@ -138,8 +138,8 @@ fn access(value: &Value) -> Result<Body, ReadError>
     ensures { Reads result (access_of (looking (view value.now))) }
 {
     let process = process(value)?;
-    let right = name_at(Field::Right, Key::Right, value)?;
-    let target = name_at(Field::Target, Key::Target, value)?;
+    let right = name_at(Key::Right, value)?;
+    let target = name_at(Key::Target, value)?;
     Ok(Body::Access {
         process,
         right,

@@ -5,13 +5,10 @@ ghost use Rattle.pm_model.specs.Nameable.{IsNameable};
 ghost use Rattle.pm_model.specs.Text.{text, bad_text};
 
 use crate::waiting::{LONGEST, ROOM, line_at, part, push_bytes, remove_front};
-use pm_json::{print_bad, print_reply};
+use pm_json::{LONGEST_REPLY, print_bad, print_reply};
 use pm_model::{BadLine, LineEvent, Memory, NameOf, Reply};
 use std::alloc::Global;
 use std::marker::Model;
-
-// How many bytes of output have their room from the start.
-const OUTPUT: usize = 1024;
 
 /// What has come and isn't answered yet, and what is to be sent. Contracts see the two lists of
 /// bytes. The input buffer of 16,384 bytes is taken once, whatever comes.
@@ -46,13 +43,13 @@ impl Session {
     /// Nothing waits, and 1,024 bytes of output have their room. Memory where there is none for the
     /// two buffers.
     pub fn new(alloc: Global) -> Result<Session, Memory>
-        ensures { IfOk result (λ s. s ≡ record { waiting = []; output = []; capacity = OUTPUT }) }
+        ensures { IfOk result (λ s. s ≡ record { waiting = []; output = []; capacity = LONGEST_REPLY }) }
     {
         Ok(Session {
             waiting: Vec::with_capacity(alloc, ROOM)?,
             start: 0,
             tail: 0,
-            output: Vec::with_capacity(alloc, OUTPUT)?,
+            output: Vec::with_capacity(alloc, LONGEST_REPLY)?,
         })
     }
 
@@ -98,7 +95,7 @@ impl Session {
     }
 
     /// Appends the line of the reply to the output. On Memory all is as before; where the output has
-    /// the capacity for the line it is Ok. `names` is as in `print_reply`.
+    /// the capacity for 1,024 bytes more it is Ok. `names` is as in `print_reply`.
     pub fn reply<N: NameOf>(
         &mut self,
         id: Option<u64>,
@@ -109,8 +106,7 @@ impl Session {
         requires { IsNameable (N.named names.now) reply.now }
         ensures ok { OnOk result (self.new.output ≡ self.old.output ++ text id version (N.name_at names.now) reply.now) }
         ensures err { OnErr result (self.new.output ≡ self.old.output) }
-        ensures fits { length self.old.output + length (text id version (N.name_at names.now) reply.now)
-            ≤ self.old.capacity → IsOk result }
+        ensures fits { length self.old.output + LONGEST_REPLY ≤ self.old.capacity → IsOk result }
         ensures capacity { self.old.capacity ≤ self.new.capacity }
         ensures waiting { self.new.waiting ≡ self.old.waiting }
     {
@@ -121,7 +117,7 @@ impl Session {
     pub fn bad(&mut self, id: Option<u64>, version: u64, bad: &BadLine) -> Result<(), Memory>
         ensures ok { OnOk result (self.new.output ≡ self.old.output ++ bad_text id version bad.now) }
         ensures err { OnErr result (self.new.output ≡ self.old.output) }
-        ensures fits { length self.old.output + length (bad_text id version bad.now) ≤ self.old.capacity → IsOk result }
+        ensures fits { length self.old.output + LONGEST_REPLY ≤ self.old.capacity → IsOk result }
         ensures capacity { self.old.capacity ≤ self.new.capacity }
         ensures waiting { self.new.waiting ≡ self.old.waiting }
     {

@@ -1,6 +1,6 @@
 //! Replies, and their lines.
 use crate::{print_bad, print_reply};
-use pm_model::{BadLine, ElementId, Field, Name, NameOf, Reason, Refusal, Reply, Shown, Table};
+use pm_model::{BadLine, ElementId, Key, Name, NameOf, Reason, Refusal, Reply, Shown, Table};
 use std::alloc::Global;
 use std::process::Abort;
 use std::test::Fail;
@@ -53,7 +53,7 @@ const BAD: [(Option<u64>, BadLine, &str); 5] = [
     ),
     (
         None,
-        BadLine::BadField(Field::Id),
+        BadLine::BadField(Key::Id),
         r#"{"field":"id","no":"bad_field","v":6}"#,
     ),
 ];
@@ -70,26 +70,26 @@ fn bad_forms_have_lines(rt: HostRuntime) -> Result<(), Fail> {
     Ok(())
 }
 
-const FIELDS: [(Field, &str); 19] = [
-    (Field::Id, "id"),
-    (Field::After, "after"),
-    (Field::Proc, "proc"),
-    (Field::Process, "process"),
-    (Field::Session, "session"),
-    (Field::Name, "name"),
-    (Field::Into, "into"),
-    (Field::From, "from"),
-    (Field::To, "to"),
-    (Field::Ua, "ua"),
-    (Field::At, "at"),
-    (Field::User, "user"),
-    (Field::Target, "target"),
-    (Field::Right, "right"),
-    (Field::Rights, "rights"),
-    (Field::Inc, "inc"),
-    (Field::Exc, "exc"),
-    (Field::Mode, "mode"),
-    (Field::Subject, "subject"),
+const FIELDS: [(Key, &str); 19] = [
+    (Key::Id, "id"),
+    (Key::After, "after"),
+    (Key::Proc, "proc"),
+    (Key::Process, "process"),
+    (Key::Session, "session"),
+    (Key::Name, "name"),
+    (Key::Into, "into"),
+    (Key::From, "from"),
+    (Key::To, "to"),
+    (Key::Ua, "ua"),
+    (Key::At, "at"),
+    (Key::User, "user"),
+    (Key::Target, "target"),
+    (Key::Right, "right"),
+    (Key::Rights, "rights"),
+    (Key::Inc, "inc"),
+    (Key::Exc, "exc"),
+    (Key::Mode, "mode"),
+    (Key::Subject, "subject"),
 ];
 
 #[test]
