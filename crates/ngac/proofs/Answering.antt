@@ -1,5 +1,5 @@
 -- Lines are answered, one after another.
-use Rattle.std.proofs.Common.{◌≡◌, ◌≤◌, ◌<◌, ℕ, List, [], ◌∷◌, ◌++◌, length, Option, None, Some, option_map, refl, sym, ◌∙◌, ap, arith, subst, length-append}
+use Rattle.std.proofs.Common.{◌≡◌, ◌<◌, ℕ, List, [], ◌∷◌, ◌++◌, length, Option, None, Some, option_map, refl, sym, ◌∙◌, ap, arith, subst, length-append}
 use Rattle.std.proofs.lemmas.List.{append-nil}
 use Rattle.std.proofs.lemmas.Option.{none-some, same_Some}
 use Rattle.std.specs.Io.KnownBytes.{Appends}
@@ -13,7 +13,7 @@ use Rattle.pm_session.specs.Taken.{rest_of}
 use Rattle.ngac.specs.Coming.{coming, ahead}
 use Rattle.ngac.specs.Parts.{next_asked}
 use Rattle.ngac.specs.Wrote.{Wrote, WroteWhole, WrotePart}
-use Rattle.ngac.proofs.Writing.{Wrote-then, Wrote-whole, Wrote-then_part, IsProperFront-before}
+use Rattle.ngac.proofs.Writing.{Wrote-then, Wrote-then_part, IsProperFront-before}
 
 -- what is asked, by how the bytes are cut
 abbrev asked_of : Option (List ℕ × List ℕ) → Option Asked
@@ -73,19 +73,19 @@ wrote-line_part S w o a before now next is part = record {
 pub record Answering (before now : Option (List ℕ)) (first count : ℕ) (S T : State) (from to : List ℕ → List Event) (output : List ℕ) : Type 0 where
   pub wrote : Wrote before now S T from to
   pub sent : output ≡ []
-  pub later : first ≤ count
+  pub kept : count ≡ first
 
 -- one more line was answered
 pub answering-more : (before mid now : Option (List ℕ)) (f0 f1 f2 : ℕ) (from : List ℕ → List Event) (R S T : State) (w v o out out_after : List ℕ) (a : Asked)
     → Answering before mid f0 f1 R S from (coming w) out → Some a ≡ next_asked w
     → o ≡ line_told a.id S (answer_what S a.what) → Appends mid now o
-    → T ≡ after S (answer_what S a.what) → v ≡ rest_of w (cut w) → out_after ≡ [] → f1 ≤ f2
+    → T ≡ after S (answer_what S a.what) → v ≡ rest_of w (cut w) → out_after ≡ [] → f2 ≡ f1
     → Answering before now f0 f2 R T from (coming v) out_after
-answering-more before mid now f0 f1 f2 from R S T w v o out out_after a h next is app state rest sent later = record {
+answering-more before mid now f0 f1 f2 from R S T w v o out out_after a h next is app state rest sent kept = record {
   wrote = rw (state, rest) (Wrote-then before mid now R S (after S (answer_what S a.what)) from (coming w) (coming (rest_of w (cut w))) h.wrote
       (wrote-line S w o a mid now (next-line w a next) is app));
   sent = sent;
-  later = let l = h.later in omega arith;
+  kept = kept ∙ h.kept;
 }
 
 -- its reply was not written whole
@@ -96,7 +96,7 @@ pub answering-part : (before mid now : Option (List ℕ)) (f0 f1 : ℕ) (from : 
 answering-part before mid now f0 f1 from R S w o out a h next is part =
     Wrote-then_part before mid now R S from (coming w) h.wrote (wrote-line_part S w o a mid now (next-line w a next) is part)
 
--- it got no reply
-pub answering-whole : (before now : Option (List ℕ)) (f0 f1 : ℕ) (S T : State) (from to : List ℕ → List Event) (out : List ℕ)
-    → Answering before now f0 f1 S T from to out → WroteWhole before now S from
-answering-whole before now f0 f1 S T from to out h = Wrote-whole before now S T from to h.wrote
+-- it got no reply, and changed nothing
+pub answering-whole : (before now : Option (List ℕ)) (f0 f1 : ℕ) (S T U : State) (from to : List ℕ → List Event) (out : List ℕ)
+    → Answering before now f0 f1 S T from to out → U ≡ T → WroteWhole before now S U from
+answering-whole before now f0 f1 S T U from to out h same = rw same (to, h.wrote)

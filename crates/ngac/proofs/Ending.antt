@@ -5,7 +5,7 @@ use Rattle.std.proofs.lemmas.Bool.{le-ltb}
 use Rattle.std.proofs.Math.Seq.{take-append_seam}
 use Rattle.std.specs.Io.KnownBytes.{Consumes, IsAtEnd, Keeps}
 use Rattle.pm_model.specs.State.{State, opening}
-use Rattle.pm_model.specs.Lines.{cut, events}
+use Rattle.pm_model.specs.Lines.{Event, cut, events}
 use Rattle.pm_model.specs.Solo.{solo, replies}
 use Rattle.pm_session.proofs.LineLaws.{events-no_cut}
 use Rattle.ngac.specs.Coming.{coming, ahead, coming_past}
@@ -26,14 +26,14 @@ solo-answered bytes w a b S drained h =
     (sym (ap events (sym (append-nil bytes)) ∙ h.told [] ∙ ap (λ l. h.lines ++ l) none ∙ append-nil h.lines))
 
 -- whole replies are those to the first lines
-whole-replies : (bytes : List ℕ) (a b : Option (List ℕ)) (h : WroteWhole a b opening (coming bytes)) → AreWholeReplies (replies opening h.lines) bytes
-whole-replies bytes a b h =
-    let t = h.told [] in
-    let all : events bytes ≡ h.lines ++ t.0 = ap events (sym (append-nil bytes)) ∙ t.1 in
+whole-replies : (bytes : List ℕ) (a b : Option (List ℕ)) (T : State) (to : List ℕ → List Event) (h : Wrote a b opening T (coming bytes) to)
+    → AreWholeReplies (replies opening h.lines) bytes
+whole-replies bytes a b T to h =
+    let all : events bytes ≡ h.lines ++ to [] = ap events (sym (append-nil bytes)) ∙ h.told [] in
     record {
       count = length h.lines;
-      within = let l = ap length all ∙ length-append h.lines t.0 in omega arith;
-      split = ap (replies opening) (sym (ap (take (length h.lines)) all ∙ take-append_seam h.lines t.0));
+      within = let l = ap length all ∙ length-append h.lines (to []) in omega arith;
+      split = ap (replies opening) (sym (ap (take (length h.lines)) all ∙ take-append_seam h.lines (to [])));
     }
 
 -- a part is a proper front
@@ -63,10 +63,10 @@ ran-nothing limit left taken = record {
 }
 
 -- a source that failed
-pub ran-read_fault : (limit : ℕ) (left rest last taken grown : Option (List ℕ)) (S : State) (w o : List ℕ) (n a b c d : ℕ)
-    → Running left rest taken grown S w o n a b c d → n < limit → Keeps rest last
+pub ran-read_fault : (limit : ℕ) (left rest last taken grown : Option (List ℕ)) (S : State) (w o : List ℕ) (n : ℕ)
+    → Running left rest taken grown S w o n → n < limit → Keeps rest last
     → Ran limit left last taken grown ReadFault
-ran-read_fault limit left rest last taken grown S w o n a b c d h short k = record {
+ran-read_fault limit left rest last taken grown S w o n h short k = record {
   bytes = h.bytes;
   written = replies opening h.wrote.lines;
   consumed = Consumes-kept left rest last h.bytes h.consumed k;
@@ -78,10 +78,10 @@ ran-read_fault limit left rest last taken grown S w o n a b c d h short k = reco
 }
 
 -- a source at its end
-pub ran-done : (limit : ℕ) (left rest last taken grown : Option (List ℕ)) (S : State) (w o : List ℕ) (n a b c d : ℕ)
-    → Running left rest taken grown S w o n a b c d → n < limit → Consumes rest last [] → IsAtEnd last
+pub ran-done : (limit : ℕ) (left rest last taken grown : Option (List ℕ)) (S : State) (w o : List ℕ) (n : ℕ)
+    → Running left rest taken grown S w o n → n < limit → Consumes rest last [] → IsAtEnd last
     → Ran limit left last taken grown Done
-ran-done limit left rest last taken grown S w o n a b c d h short k end = record {
+ran-done limit left rest last taken grown S w o n h short k end = record {
   bytes = h.bytes;
   written = replies opening h.wrote.lines;
   consumed = subst (Consumes left last) (append-nil h.bytes) (Consumes-append left rest last h.bytes [] h.consumed k);
@@ -93,9 +93,9 @@ ran-done limit left rest last taken grown S w o n a b c d h short k end = record
 }
 
 -- as many bytes as the limit
-pub ran-much : (limit : ℕ) (left rest taken grown : Option (List ℕ)) (S : State) (w o : List ℕ) (n a b c d : ℕ)
-    → Running left rest taken grown S w o n a b c d → n ≡ limit → Ran limit left rest taken grown TooMuch
-ran-much limit left rest taken grown S w o n a b c d h much =
+pub ran-much : (limit : ℕ) (left rest taken grown : Option (List ℕ)) (S : State) (w o : List ℕ) (n : ℕ)
+    → Running left rest taken grown S w o n → n ≡ limit → Ran limit left rest taken grown TooMuch
+ran-much limit left rest taken grown S w o n h much =
     let all = solo-answered h.bytes w taken grown S h.drained h.wrote in
     record {
       bytes = h.bytes;
@@ -109,11 +109,11 @@ ran-much limit left rest taken grown S w o n a b c d h much =
     }
 
 -- so it must be, where the input is that long
-pub complete-much : (limit : ℕ) (left rest taken grown : Option (List ℕ)) (S : State) (w o : List ℕ) (n a b c d : ℕ)
-    → Running left rest taken grown S w o n a b c d → n ≡ limit → IsComplete limit left TooMuch
-complete-much limit None rest taken grown S w o n a b c d h much = tt
-complete-much limit (Some input) None taken grown S w o n a b c d h much = absurd h.consumed
-complete-much limit (Some input) (Some behind) taken grown S w o n a b c d h much = λ _.
+pub complete-much : (limit : ℕ) (left rest taken grown : Option (List ℕ)) (S : State) (w o : List ℕ) (n : ℕ)
+    → Running left rest taken grown S w o n → n ≡ limit → IsComplete limit left TooMuch
+complete-much limit None rest taken grown S w o n h much = tt
+complete-much limit (Some input) None taken grown S w o n h much = absurd h.consumed
+complete-much limit (Some input) (Some behind) taken grown S w o n h much = λ _.
     let l = ap length h.consumed ∙ length-append h.bytes behind in
     let q = h.count in
     let past : nat_lt (length input) limit ≡ false = le-ltb (length input) limit (omega arith) in rw past refl
@@ -137,17 +137,18 @@ ran-write_fault limit left rest taken grown now S w piece h part =
     }
 
 -- no memory for a line
-pub ran-memory : (limit : ℕ) (left rest taken grown now : Option (List ℕ)) (S : State) (w piece : List ℕ)
-    → Reading left rest taken grown S w piece limit → WroteWhole grown now S (coming_past w piece)
+pub ran-memory : (limit : ℕ) (left rest taken grown now : Option (List ℕ)) (S T : State) (w piece : List ℕ)
+    → Reading left rest taken grown S w piece limit → WroteWhole grown now S T (coming_past w piece)
     → Ran limit left rest taken now Memory
-ran-memory limit left rest taken grown now S w piece h whole =
-    let all = reading-whole limit left rest taken grown now S w piece h whole in
+ran-memory limit left rest taken grown now S T w piece h whole =
+    let told = reading-whole limit left rest taken grown now S T w piece h whole in
+    let all = told.1 in
     record {
       bytes = h.bytes;
       written = replies opening all.lines;
       consumed = h.consumed;
       appended = all.appended;
-      due = whole-replies h.bytes taken now all;
+      due = whole-replies h.bytes taken now T told.0 all;
       at_end = λ e. cc;
       within = h.within;
       at_limit = λ other. absurd (other refl);

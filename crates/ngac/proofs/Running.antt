@@ -8,7 +8,7 @@ use Rattle.pm_session.proofs.LineLaws.{events-shape-append}
 use Rattle.ngac.specs.Coming.{coming, coming_past, ahead}
 use Rattle.ngac.specs.Wrote.{Wrote, WroteWhole, WrotePart}
 use Rattle.ngac.proofs.Known.{Consumes-append}
-use Rattle.ngac.proofs.Writing.{Wrote-then, Wrote-then_whole, Wrote-then_part}
+use Rattle.ngac.proofs.Writing.{Wrote-then, Wrote-then_part}
 
 -- what was pushed comes before what is behind it
 pub coming-pushed : (w v piece more : List ℕ) (n : ℕ) → v ≡ shape (w ++ take n piece) → n ≡ length piece → coming_past w piece more ≡ coming v more
@@ -24,9 +24,6 @@ coming-pushed w v piece more n is all =
 pub Wrote-as : (a b : Option (List ℕ)) (S T : State) (f g h : List ℕ → List Event) → ((more : List ℕ) → f more ≡ g more) → Wrote a b S T g h → Wrote a b S T f h
 Wrote-as a b S T f g h same w = record { lines = w.lines; appended = w.appended; state = w.state; told = λ more. same more ∙ w.told more }
 
-pub WroteWhole-as : (a b : Option (List ℕ)) (S : State) (f g : List ℕ → List Event) → ((more : List ℕ) → f more ≡ g more) → WroteWhole a b S g → WroteWhole a b S f
-WroteWhole-as a b S f g same w = record { lines = w.lines; appended = w.appended; told = λ more. let t = w.told more in (t.0, same more ∙ t.1) }
-
 pub WrotePart-as : (a b : Option (List ℕ)) (S : State) (f g : List ℕ → List Event) → ((more : List ℕ) → f more ≡ g more) → WrotePart a b (ahead S g) → WrotePart a b (ahead S f)
 WrotePart-as a b S f g same w = record {
   written = w.written;
@@ -35,15 +32,13 @@ WrotePart-as a b S f g same w = record {
 }
 
 -- what was done so far
-pub record Running (left rest taken grown : Option (List ℕ)) (S : State) (waiting output : List ℕ) (total first_in now_in first_out now_out : ℕ) : Type 0 where
+pub record Running (left rest taken grown : Option (List ℕ)) (S : State) (waiting output : List ℕ) (total : ℕ) : Type 0 where
   pub bytes : List ℕ
   pub consumed : Consumes left rest bytes
   pub wrote : Wrote taken grown opening S (coming bytes) (coming waiting)
   pub drained : cut waiting ≡ None
   pub sent : output ≡ []
   pub count : length bytes ≡ total
-  pub later_in : first_in ≤ now_in
-  pub later_out : first_out ≤ now_out
 
 -- the piece that was read now, before its lines are answered
 pub record Reading (left rest taken grown : Option (List ℕ)) (S : State) (waiting piece : List ℕ) (limit : ℕ) : Type 0 where
@@ -63,10 +58,10 @@ wrote-past taken grown S bytes w piece h = record {
 }
 
 -- a piece is read
-pub reading-piece : (limit : ℕ) (left rest last taken grown : Option (List ℕ)) (S : State) (w o : List ℕ) (n a b c d : ℕ) (piece : List ℕ)
-    → Running left rest taken grown S w o n a b c d → Consumes rest last piece → n + length piece ≤ limit
+pub reading-piece : (limit : ℕ) (left rest last taken grown : Option (List ℕ)) (S : State) (w o : List ℕ) (n : ℕ) (piece : List ℕ)
+    → Running left rest taken grown S w o n → Consumes rest last piece → n + length piece ≤ limit
     → Reading left last taken grown S w piece limit
-reading-piece limit left rest last taken grown S w o n a b c d piece h k short = record {
+reading-piece limit left rest last taken grown S w o n piece h k short = record {
   bytes = h.bytes ++ piece;
   consumed = Consumes-append left rest last h.bytes piece h.consumed k;
   wrote = wrote-past taken grown S h.bytes w piece h.wrote;
@@ -74,26 +69,24 @@ reading-piece limit left rest last taken grown S w o n a b c d piece h k short =
 }
 
 -- its lines are answered
-pub running-more : (left rest last taken grown more_grown : Option (List ℕ)) (S T : State) (w v o p : List ℕ) (n m a b c d e f : ℕ) (piece : List ℕ)
-    → Running left rest taken grown S w o n a b c d → Consumes rest last piece
-    → Wrote grown more_grown S T (coming_past w piece) (coming v) → cut v ≡ None → p ≡ [] → m ≡ n + length piece → b ≤ e → d ≤ f
-    → Running left last taken more_grown T v p m a e c f
-running-more left rest last taken grown more_grown S T w v o p n m a b c d e f piece h k wrote drained sent count in_later out_later = record {
+pub running-more : (left rest last taken grown more_grown : Option (List ℕ)) (S T : State) (w v o p : List ℕ) (n m : ℕ) (piece : List ℕ)
+    → Running left rest taken grown S w o n → Consumes rest last piece
+    → Wrote grown more_grown S T (coming_past w piece) (coming v) → cut v ≡ None → p ≡ [] → m ≡ n + length piece
+    → Running left last taken more_grown T v p m
+running-more left rest last taken grown more_grown S T w v o p n m piece h k wrote drained sent count = record {
   bytes = h.bytes ++ piece;
   consumed = Consumes-append left rest last h.bytes piece h.consumed k;
   wrote = Wrote-then taken grown more_grown opening S T (coming (h.bytes ++ piece)) (coming_past w piece) (coming v) (wrote-past taken grown S h.bytes w piece h.wrote) wrote;
   drained = drained;
   sent = sent;
   count = let l = length-append h.bytes piece in let q = h.count in omega arith;
-  later_in = let q = h.later_in in omega arith;
-  later_out = let q = h.later_out in omega arith;
 }
 
 -- its lines got whole replies, but not all of them
-pub reading-whole : (limit : ℕ) (left rest taken grown now : Option (List ℕ)) (S : State) (w piece : List ℕ) (h : Reading left rest taken grown S w piece limit)
-    → WroteWhole grown now S (coming_past w piece) → WroteWhole taken now opening (coming h.bytes)
-reading-whole limit left rest taken grown now S w piece h whole =
-    Wrote-then_whole taken grown now opening S (coming h.bytes) (coming_past w piece) h.wrote whole
+pub reading-whole : (limit : ℕ) (left rest taken grown now : Option (List ℕ)) (S T : State) (w piece : List ℕ) (h : Reading left rest taken grown S w piece limit)
+    → WroteWhole grown now S T (coming_past w piece) → WroteWhole taken now opening T (coming h.bytes)
+reading-whole limit left rest taken grown now S T w piece h whole =
+    (whole.0, Wrote-then taken grown now opening S T (coming h.bytes) (coming_past w piece) whole.0 h.wrote whole.1)
 
 -- a part of their replies was written
 pub reading-part : (limit : ℕ) (left rest taken grown now : Option (List ℕ)) (S : State) (w piece : List ℕ) (h : Reading left rest taken grown S w piece limit)

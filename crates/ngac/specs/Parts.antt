@@ -1,5 +1,5 @@
 -- What the parts of a run tell.
-use Rattle.std.specs.Prelude.{◌≡◌, ◌≤◌, ℕ, List, Option, option_map, Result, Err}
+use Rattle.std.specs.Prelude.{◌≡◌, ◌≢◌, ℕ, List, Option, option_map, Result, Err}
 use Rattle.pm_model.specs.Causes.{Rose}
 use Rattle.pm_model.specs.Solo.{asked_at}
 use Rattle.pm_session.specs.Taken.{first_event}
@@ -11,7 +11,7 @@ use Rattle.ngac.specs.declared.lines.Stop.TheVariants.{WriteFault}
 abbrev pub next_asked : List ℕ → Option Asked
 next_asked waiting = option_map asked_at (first_event waiting)
 
--- a count never falls, and has risen where writing failed
+-- a count of faults has risen where writing failed, and is as before where it didn't
 pub record HasStopCause {T : Type 0} (before now : ℕ) (result : Result T Stop) : Type 0 where
-  pub later : before ≤ now
   pub failed : result ≡ Err WriteFault → Rose before now
+  pub kept : result ≢ Err WriteFault → now ≡ before

@@ -1,12 +1,11 @@
 -- What was said on `err`.
-use Rattle.std.specs.Prelude.{◌≡◌, ℕ, List, Option}
+use Rattle.std.specs.Prelude.{◌≡◌, ◌⊎◌, ℕ, List, Option}
 use Rattle.std.specs.Io.KnownBytes.{Appends}
 use Rattle.pm_model.specs.Causes.{Rose}
-use Rattle.ngac.specs.Fronts.{IsFront}
+use Rattle.ngac.specs.Fronts.{IsProperFront}
 
--- a front of the text, and all of it where the count of faults didn't rise
+-- all of the text, and the count of faults is as before; or a front of it with something missing, and the count rose
 pub record Said (taken grown : Option (List ℕ)) (before now : ℕ) (text : List ℕ) : Type 0 where
   pub written : List ℕ
   pub appended : Appends taken grown written
-  pub front : IsFront written text
-  pub whole : ¬ Rose before now → written ≡ text
+  pub told : ((written ≡ text) × (now ≡ before)) ⊎ (IsProperFront written text × Rose before now)

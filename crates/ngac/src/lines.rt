@@ -1,6 +1,7 @@
 //! The whole lines that wait are answered, and their replies written.
-ghost use Rattle.std.specs.Prelude.{◌≡◌, ◌≤◌, ◌++◌, [], None, Err, length, drop, IfOk, OnOk, OnErr};
-ghost use Rattle.std.specs.Io.KnownBytes.{Appends};
+ghost use Rattle.std.specs.Prelude.{◌≡◌, ◌≤◌, ◌<◌, ◌+◌, ◌++◌, [], None, Err, length, drop, IfOk, OnOk, OnErr};
+ghost use Rattle.std.specs.Io.{WritesAtMost};
+ghost use Rattle.std.specs.Io.KnownBytes.{Appends, WriteAppends};
 ghost use Rattle.pm_model.specs.Causes.{HasCause};
 ghost use Rattle.pm_model.specs.Lines.{cut};
 ghost use Rattle.pm_model.specs.Solo.{asked_at, answer_what, line_told};
@@ -11,7 +12,7 @@ ghost use Rattle.ngac.specs.Wrote.{Wrote, WroteWhole, WrotePart};
 ghost use Rattle.ngac.specs.Coming.{coming, ahead};
 ghost use Rattle.ngac.specs.Parts.{next_asked, HasStopCause};
 
-use pm_json::read_request;
+use pm_json::{LONGEST_REPLY, read_request};
 use pm_model::{Asked, BadLine, Failed, LineEvent, Memory, Sink, What};
 use pm_session::Session;
 use pm_step::Solo;
@@ -53,6 +54,20 @@ fn rest(bytes: &[u8], from: usize) -> &[u8]
     &bytes[from..]
 }
 
+// One write, which takes at least a byte.
+fn write_some<O: Sink>(out: &mut O, bytes: &[u8]) -> Result<usize, Failed>
+    requires { 0 < length bytes.now }
+    ensures some { IfOk result (λ n. 0 < n) }
+    ensures bound { WritesAtMost result bytes.now }
+    ensures bytes { WriteAppends (O.taken out.old) (O.taken out.new) result bytes.now }
+    ensures cause { HasCause (O.faults out.old) (O.faults out.new) result }
+{
+    match out.write(bytes)? {
+        0 => Err(Failed),
+        count => Ok(count),
+    }
+}
+
 /// Writes the bytes whole.
 pub(crate) fn write_all<O: Sink>(out: &mut O, bytes: &[u8]) -> Result<(), Failed>
     ensures ok { OnOk result (Appends (O.taken out.old) (O.taken out.new) bytes.now) }
@@ -61,10 +76,7 @@ pub(crate) fn write_all<O: Sink>(out: &mut O, bytes: &[u8]) -> Result<(), Failed
 {
     let mut sent = 0;
     while sent < bytes.len() {
-        let count = out.write(rest(bytes, sent))?;
-        if count == 0 {
-            return Err(Failed);
-        }
+        let count = write_some(out, rest(bytes, sent))?;
         sent += count;
     }
     Ok(())
@@ -86,6 +98,7 @@ fn next_asked(alloc: Global, session: &mut Session) -> Result<Option<Asked>, Mem
     ensures asked { IfOk result (λ asked. asked ≡ next_asked session.old.waiting) }
     ensures waiting { session.new.waiting ≡ rest_of session.old.waiting (cut session.old.waiting) }
     ensures output { session.new.output ≡ session.old.output }
+    ensures capacity { session.new.capacity ≡ session.old.capacity }
 {
     match session.take() {
         None => Ok(None),
@@ -96,10 +109,14 @@ fn next_asked(alloc: Global, session: &mut Session) -> Result<Option<Asked>, Mem
     }
 }
 
+// With room for the reply there is no want of memory once the request was asked.
 fn answer(session: &mut Session, solo: &mut Solo, asked: Asked) -> Result<(), Memory>
+    requires { length session.old.output + LONGEST_REPLY ≤ session.old.capacity }
     ensures output { OnOk result (session.new.output ≡ session.old.output ++ line_told asked.id (state_of solo.old) (answer_what (state_of solo.old) asked.what)) }
     ensures state { OnOk result (state_of solo.new ≡ after (state_of solo.old) (answer_what (state_of solo.old) asked.what)) }
+    ensures err { OnErr result (state_of solo.new ≡ state_of solo.old) }
     ensures waiting { session.new.waiting ≡ session.old.waiting }
+    ensures capacity { session.old.capacity ≤ session.new.capacity }
 {
     match &asked.what {
         What::Bad(bad) => session.bad(asked.id, solo.version(), bad),
@@ -119,6 +136,7 @@ fn send<O: Sink>(session: &mut Session, out: &mut O) -> Result<(), Failed>
     ensures err { OnErr result (WrotePart (O.taken out.old) (O.taken out.new) (λ _. session.old.output)) }
     ensures cause { HasCause (O.faults out.old) (O.faults out.new) result }
     ensures waiting { session.new.waiting ≡ session.old.waiting }
+    ensures capacity { session.new.capacity ≡ session.old.capacity }
 {
     write_all(out, session.out())?;
     let count = session.out().len();
@@ -133,15 +151,17 @@ pub(crate) fn answer_lines<O: Sink>(
     solo: &mut Solo,
     out: &mut O,
 ) -> Result<(), Stop>
-    requires { session.old.output ≡ [] }
+    requires sent { session.old.output ≡ [] }
+    requires room { LONGEST_REPLY ≤ session.old.capacity }
     ensures ok { OnOk result (Wrote (O.taken out.old) (O.taken out.new) (state_of solo.old) (state_of solo.new)
         (coming session.old.waiting) (coming session.new.waiting)) }
     ensures drained { OnOk result (cut session.new.waiting ≡ None) }
     ensures sent { OnOk result (session.new.output ≡ []) }
+    ensures room { OnOk result (LONGEST_REPLY ≤ session.new.capacity) }
     ensures fault { result ≡ Err Stop.WriteFault
         → WrotePart (O.taken out.old) (O.taken out.new) (ahead (state_of solo.old) (coming session.old.waiting)) }
     ensures memory { result ≡ Err Stop.Memory
-        → WroteWhole (O.taken out.old) (O.taken out.new) (state_of solo.old) (coming session.old.waiting) }
+        → WroteWhole (O.taken out.old) (O.taken out.new) (state_of solo.old) (state_of solo.new) (coming session.old.waiting) }
     ensures cause { HasStopCause (O.faults out.old) (O.faults out.new) result }
 {
     while let Some(asked) = next_asked(alloc, session)? {

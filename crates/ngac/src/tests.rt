@@ -6,6 +6,8 @@ use crate::top::top;
 use pm_io::{CalmSource, MemSink, MemSource};
 use pm_model::{Failed, Source};
 use std::alloc::{AllocError, Global};
+use std::env::Args;
+use std::io::{Error, ErrorKind};
 use std::process::Abort;
 use std::test::Fail;
 
@@ -28,13 +30,14 @@ fn joined(alloc: Global, parts: &[&[u8]]) -> Result<Vec<u8>, AllocError> {
     Ok(bytes)
 }
 
-fn words(alloc: Global, texts: &[&str]) -> Result<Vec<String>, AllocError> {
-    let mut words = Vec::new(alloc);
+// The words of the command line, the program's name first.
+fn args(alloc: Global, texts: &[&str]) -> Result<Args, AllocError> {
+    let mut words = vec![in alloc; String::from_str(alloc, "ngac")?]?;
     for text in texts {
         let word = String::from_str(alloc, text)?;
         words.push(word)?;
     }
-    Ok(words)
+    Ok(words.into_iter())
 }
 
 // The numbers of the calls that fail, and the room of `out`.
@@ -57,8 +60,8 @@ fn check_run(
     let mut source = MemSource::new(alloc, input, outside.reads)?;
     let mut out = MemSink::new(alloc, outside.room, outside.writes)?;
     let mut err = MemSink::new(alloc, 64, &[])?;
-    let words = words(alloc, &["run"])?;
-    assert_eq!(rt; top(alloc, &words, &mut source, &mut out, &mut err), status);
+    let args = Ok(args(alloc, &["run"])?);
+    assert_eq!(rt; top(alloc, args, &mut source, &mut out, &mut err), status);
     assert_eq!(rt; out.taken(), output);
     assert_eq!(rt; err.taken(), status.text().as_bytes());
     Ok(())
@@ -203,9 +206,11 @@ struct Pieces {
 impl Source for Pieces {
     ghost use Rattle.std.specs.Prelude.{Some};
 
-    ghost left = { λ s. Some s.bytes };
+    ghost left = { λ s. Some s.bytes.left };
 
     ghost faults = { λ _. 0 };
+
+    ghost ends = { λ s. s.bytes.ends };
 
     fn read(&mut self, piece: &mut [u8]) -> Result<usize, Failed> {
         let most = self.first.clamp(1, piece.len());
@@ -242,8 +247,8 @@ fn other_words_are_usage(rt: HostRuntime) -> Result<(), Fail> {
         let mut source = CalmSource::new(alloc, FILES)?;
         let mut out = MemSink::new(alloc, ROOM, &[])?;
         let mut err = MemSink::new(alloc, 64, &[])?;
-        let words = words(alloc, texts)?;
-        let status = top(alloc, &words, &mut source, &mut out, &mut err);
+        let args = Ok(args(alloc, texts)?);
+        let status = top(alloc, args, &mut source, &mut out, &mut err);
         assert_eq!(rt; status, Status::Usage);
         assert_eq!(rt; err.taken(), b"usage: ngac run\n".as_slice());
         assert!(rt; out.taken().is_empty());
@@ -252,6 +257,26 @@ fn other_words_are_usage(rt: HostRuntime) -> Result<(), Fail> {
             Status::Done
         );
         assert_eq!(rt; out.taken(), DONE);
+    }
+    Ok(())
+}
+
+// A word that is no text is outside the grammar.
+#[test]
+fn words_that_cannot_be_had_end_the_run(rt: HostRuntime) -> Result<(), Fail> {
+    let alloc = rt.alloc();
+    let table = [
+        (ErrorKind::InvalidData, Status::Usage),
+        (ErrorKind::OutOfMemory, Status::Memory),
+    ];
+    for (kind, status) in table {
+        let mut source = CalmSource::new(alloc, FILES)?;
+        let mut out = MemSink::new(alloc, ROOM, &[])?;
+        let mut err = MemSink::new(alloc, 64, &[])?;
+        let args = Err(Error::from(kind));
+        assert_eq!(rt; top(alloc, args, &mut source, &mut out, &mut err), status);
+        assert!(rt; out.taken().is_empty());
+        assert_eq!(rt; err.taken(), status.text().as_bytes());
     }
     Ok(())
 }
@@ -268,8 +293,8 @@ fn a_failing_err_changes_no_status(rt: HostRuntime) -> Result<(), Fail> {
         let mut source = MemSource::new(alloc, FILES, &[1])?;
         let mut out = MemSink::new(alloc, ROOM, &[])?;
         let mut err = MemSink::new(alloc, room, &[failing])?;
-        let words = words(alloc, &[word])?;
-        assert_eq!(rt; top(alloc, &words, &mut source, &mut out, &mut err), status);
+        let args = Ok(args(alloc, &[word])?);
+        assert_eq!(rt; top(alloc, args, &mut source, &mut out, &mut err), status);
         assert_eq!(rt; err.taken(), said);
     }
     Ok(())

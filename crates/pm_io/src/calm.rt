@@ -3,37 +3,40 @@
 ghost use Rattle.std.specs.Prelude.{◌≡◌, ◌<◌, ◌-◌, [], min, length, Some, IfOk, IsOk};
 ghost use Rattle.std.specs.Io.{ReadsAtMost, WritesAtMost};
 ghost use Rattle.std.specs.Io.KnownBytes.{ReadConsumes, WriteAppends};
-ghost use Rattle.pm_model.specs.Causes.{HasCause, TakesNothingByFault};
-ghost use Rattle.pm_io.specs.Devices.{faults_after};
+ghost use Rattle.pm_model.specs.Causes.{HasCause, HasWriteCause, ends_after};
+ghost use Rattle.pm_io.specs.Devices.{faults_written};
 
+use crate::counting::{count_end, count_none};
 use crate::moving::{give, store};
 use pm_model::{Failed, Memory, Sink, Source};
 use std::alloc::Global;
 use std::collections::VecDeque;
 use std::marker::Model;
 
-/// Bytes in memory. No read fails. Contracts see the bytes that are left.
+/// Bytes in memory. No read fails.
 #[derive(Drop)]
 pub struct CalmSource {
     bytes: VecDeque<u8>,
+    ends: u64,
 }
 
 impl Model for CalmSource {
-    ghost use Rattle.std.specs.Prelude.{ℕ, List};
+    ghost use Rattle.pm_io.specs.Devices.{Supply};
 
-    ghost Value = { List ℕ };
+    ghost Value = { Supply };
 
-    ghost view = { λ s. s.bytes.items };
+    ghost view = { λ s. record { left = s.bytes.items; ends = s.ends } };
 }
 
 impl CalmSource {
     /// A source of these bytes.
     pub fn new(alloc: Global, bytes: &[u8]) -> Result<CalmSource, Memory>
-        ensures { IfOk result (λ s. s ≡ bytes.now) }
+        ensures { IfOk result (λ s. s ≡ record { left = bytes.now; ends = 0 }) }
     {
         let held = Vec::from_slice(alloc, bytes)?;
         Ok(CalmSource {
             bytes: VecDeque::from(held),
+            ends: 0,
         })
     }
 }
@@ -41,17 +44,22 @@ impl CalmSource {
 impl Source for CalmSource {
     ghost use Rattle.std.specs.Prelude.{Some};
 
-    ghost left = { λ s. Some s };
+    ghost left = { λ s. Some s.left };
 
     ghost faults = { λ _. 0 };
 
+    ghost ends = { λ s. s.ends };
+
     fn read(&mut self, piece: &mut [u8]) -> Result<usize, Failed>
         ensures bound { ReadsAtMost result piece.new }
-        ensures bytes { ReadConsumes (Some self.old) (Some self.new) result piece.new }
+        ensures bytes { ReadConsumes (Some self.old.left) (Some self.new.left) result piece.new }
         ensures cause { HasCause 0 0 result }
+        ensures end { self.new.ends ≡ ends_after self.old.ends result }
         ensures ok { IsOk result }
     {
-        Ok(give(&mut self.bytes, piece))
+        let count = give(&mut self.bytes, piece);
+        count_end(&mut self.ends, count);
+        Ok(count)
     }
 }
 
@@ -105,17 +113,14 @@ impl Sink for CalmSink {
     fn write(&mut self, piece: &[u8]) -> Result<usize, Failed>
         ensures bound { WritesAtMost result piece.now }
         ensures bytes { WriteAppends (Some self.old.taken) (Some self.new.taken) result piece.now }
-        ensures cause { HasCause self.old.faults self.new.faults result }
-        ensures nothing { TakesNothingByFault self.old.faults self.new.faults result piece.now }
+        ensures cause { HasWriteCause self.old.faults self.new.faults result piece.now }
         ensures ok { IsOk result }
         ensures room { self.new.room ≡ self.old.room }
         ensures count { IfOk result (λ n. n ≡ min (self.old.room - length self.old.taken) (length piece.now)) }
-        ensures faults { IfOk result (λ n. self.new.faults ≡ faults_after self.old.faults n piece.now) }
+        ensures faults { self.new.faults ≡ faults_written self.old.faults result piece.now }
     {
         let count = store(&mut self.taken, self.room, piece);
-        if count == 0 && !piece.is_empty() {
-            self.faults = self.faults.saturating_add(1);
-        }
+        count_none(&mut self.faults, count, piece);
         Ok(count)
     }
 }

@@ -1,8 +1,9 @@
 //! Which calls are to fail, and how many there were.
 
 ghost use Rattle.std.specs.Prelude.{◌≡◌, ◌↔◌, IfOk, IsTrue, Contains};
-ghost use Rattle.pm_io.specs.Devices.{raised};
+ghost use Rattle.pm_model.specs.Causes.{raised};
 
+use crate::counting::raise;
 use pm_model::Memory;
 use std::alloc::Global;
 use std::marker::Model;
@@ -37,7 +38,7 @@ impl Schedule {
         ensures fails { IsTrue result ↔ Contains self.old.failing self.new.calls }
         ensures calls { self.new ≡ record self.old { calls = raised self.old.calls } }
     {
-        self.calls = self.calls.saturating_add(1);
+        raise(&mut self.calls);
         self.failing.contains(&self.calls)
     }
 }

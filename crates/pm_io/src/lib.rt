@@ -2,6 +2,7 @@
 #![tactic(auto)]
 
 mod calm;
+mod counting;
 mod failing;
 mod memory;
 mod moving;

@@ -1,11 +1,12 @@
 //! A source and a sink in memory, of which chosen calls fail.
 
-ghost use Rattle.std.specs.Prelude.{◌≡◌, ◌<◌, ◌-◌, ◌↔◌, [], min, length, Some, IfOk, MatchResult, IsErr, Contains};
+ghost use Rattle.std.specs.Prelude.{◌≡◌, ◌<◌, ◌-◌, ◌↔◌, [], min, length, Some, IfOk, IsErr, Contains};
 ghost use Rattle.std.specs.Io.{ReadsAtMost, WritesAtMost};
 ghost use Rattle.std.specs.Io.KnownBytes.{ReadConsumes, WriteAppends};
-ghost use Rattle.pm_model.specs.Causes.{HasCause, TakesNothingByFault};
-ghost use Rattle.pm_io.specs.Devices.{raised, faults_after};
+ghost use Rattle.pm_model.specs.Causes.{HasCause, HasWriteCause, raised, ends_after};
+ghost use Rattle.pm_io.specs.Devices.{faults_read, faults_written};
 
+use crate::counting::{count_end, count_none, raise};
 use crate::failing::Schedule;
 use crate::moving::{give, store};
 use pm_model::{Failed, Memory, Sink, Source};
@@ -19,26 +20,28 @@ pub struct MemSource {
     bytes: VecDeque<u8>,
     schedule: Schedule,
     faults: u64,
+    ends: u64,
 }
 
 impl Model for MemSource {
-    ghost use Rattle.pm_io.specs.Devices.{Supply};
+    ghost use Rattle.pm_io.specs.Devices.{FailingSupply};
 
-    ghost Value = { Supply };
+    ghost Value = { FailingSupply };
 
-    ghost view = { λ s. record { left = s.bytes.items; failures = s.schedule; faults = s.faults } };
+    ghost view = { λ s. record { left = s.bytes.items; failures = s.schedule; faults = s.faults; ends = s.ends } };
 }
 
 impl MemSource {
     /// A source of these bytes, whose read calls of these numbers, from 1 on, are to fail.
     pub fn new(alloc: Global, bytes: &[u8], failing: &[u64]) -> Result<MemSource, Memory>
-        ensures { IfOk result (λ s. s ≡ record { left = bytes.now; failures = record { failing = failing.now; calls = 0 }; faults = 0 }) }
+        ensures { IfOk result (λ s. s ≡ record { left = bytes.now; failures = record { failing = failing.now; calls = 0 }; faults = 0; ends = 0 }) }
     {
         let held = Vec::from_slice(alloc, bytes)?;
         Ok(MemSource {
             bytes: VecDeque::from(held),
             schedule: Schedule::new(alloc, failing)?,
             faults: 0,
+            ends: 0,
         })
     }
 }
@@ -50,21 +53,24 @@ impl Source for MemSource {
 
     ghost faults = { λ s. s.faults };
 
+    ghost ends = { λ s. s.ends };
+
     fn read(&mut self, piece: &mut [u8]) -> Result<usize, Failed>
         ensures bound { ReadsAtMost result piece.new }
         ensures bytes { ReadConsumes (Some self.old.left) (Some self.new.left) result piece.new }
         ensures cause { HasCause self.old.faults self.new.faults result }
+        ensures end { self.new.ends ≡ ends_after self.old.ends result }
         ensures listed { IsErr result ↔ Contains self.old.failures.failing self.new.failures.calls }
         ensures calls { self.new.failures ≡ record self.old.failures { calls = raised self.old.failures.calls } }
-        ensures faults { MatchResult result
-            (λ _. self.new.faults ≡ self.old.faults)
-            (λ _. self.new.faults ≡ raised self.old.faults) }
+        ensures faults { self.new.faults ≡ faults_read self.old.faults result }
     {
         if self.schedule.next_fails() {
-            self.faults = self.faults.saturating_add(1);
+            raise(&mut self.faults);
             return Err(Failed);
         }
-        Ok(give(&mut self.bytes, piece))
+        let count = give(&mut self.bytes, piece);
+        count_end(&mut self.ends, count);
+        Ok(count)
     }
 }
 
@@ -121,24 +127,19 @@ impl Sink for MemSink {
     fn write(&mut self, piece: &[u8]) -> Result<usize, Failed>
         ensures bound { WritesAtMost result piece.now }
         ensures bytes { WriteAppends (Some self.old.taken) (Some self.new.taken) result piece.now }
-        ensures cause { HasCause self.old.faults self.new.faults result }
-        ensures nothing { TakesNothingByFault self.old.faults self.new.faults result piece.now }
+        ensures cause { HasWriteCause self.old.faults self.new.faults result piece.now }
         ensures room { self.new.room ≡ self.old.room }
         ensures count { IfOk result (λ n. n ≡ min (self.old.room - length self.old.taken) (length piece.now)) }
         ensures listed { IsErr result ↔ Contains self.old.failures.failing self.new.failures.calls }
         ensures calls { self.new.failures ≡ record self.old.failures { calls = raised self.old.failures.calls } }
-        ensures faults { MatchResult result
-            (λ n. self.new.faults ≡ faults_after self.old.faults n piece.now)
-            (λ _. self.new.faults ≡ raised self.old.faults) }
+        ensures faults { self.new.faults ≡ faults_written self.old.faults result piece.now }
     {
         if self.schedule.next_fails() {
-            self.faults = self.faults.saturating_add(1);
+            raise(&mut self.faults);
             return Err(Failed);
         }
         let count = store(&mut self.taken, self.room, piece);
-        if count == 0 && !piece.is_empty() {
-            self.faults = self.faults.saturating_add(1);
-        }
+        count_none(&mut self.faults, count, piece);
         Ok(count)
     }
 }

@@ -1,27 +1,31 @@
-//! A source and a sink over std's readers and writers.
+//! A source and a sink over std's readers and writers. The calls of the reader and the writer stand
+//! in one place each; what their answers come to is told exactly by functions of their own.
 
-ghost use Rattle.std.specs.Prelude.{◌≡◌, take, IfOk, OnOk, OnErr, MatchResult};
+ghost use Rattle.std.specs.Prelude.{◌≡◌};
 ghost use Rattle.std.specs.Io.{ReadsAtMost, WritesAtMost};
-ghost use Rattle.std.specs.Io.KnownBytes.{ReadConsumes, Appends};
-ghost use Rattle.pm_model.specs.Causes.{HasCause, TakesNothingByFault};
-ghost use Rattle.pm_io.specs.Devices.{raised, faults_after};
+ghost use Rattle.std.specs.Io.KnownBytes.{ReadConsumes};
+ghost use Rattle.pm_model.specs.Causes.{HasCause, HasWriteCause, ends_after};
+ghost use Rattle.pm_io.specs.Devices.{IsTold, TakesFront, faults_read, faults_written};
 
+use crate::counting::{count_end, count_none, raise};
 use pm_model::{Failed, Sink, Source};
+use std::io;
 use std::io::{Read, Write};
 use std::marker::Model;
 
-/// A reader of std, and how often it has failed. It tells no content.
+/// A reader of std, and what it answered, counted. It tells no content.
 pub struct StdSource<R> {
     inner: R,
     faults: u64,
+    ends: u64,
 }
 
 impl<R> Model for StdSource<R> {
-    ghost use Rattle.pm_io.specs.Devices.{Counted};
+    ghost use Rattle.pm_io.specs.Devices.{CountedReader};
 
-    ghost Value = { Counted R };
+    ghost Value = { CountedReader R };
 
-    ghost view = { λ s. record { inner = s.inner; faults = s.faults } };
+    ghost view = { λ s. record { inner = s.inner; faults = s.faults; ends = s.ends } };
 }
 
 impl<R: Drop> Drop for StdSource<R> {
@@ -29,6 +33,7 @@ impl<R: Drop> Drop for StdSource<R> {
         let StdSource {
             inner: _,
             faults: _,
+            ends: _,
         } = self;
     }
 }
@@ -36,9 +41,34 @@ impl<R: Drop> Drop for StdSource<R> {
 impl<R: Read> StdSource<R> {
     /// A source of what the reader gives.
     pub fn new(inner: R) -> StdSource<R>
-        ensures { result ≡ record { inner = inner; faults = 0 } }
+        ensures { result ≡ record { inner = inner; faults = 0; ends = 0 } }
     {
-        StdSource { inner, faults: 0 }
+        StdSource {
+            inner,
+            faults: 0,
+            ends: 0,
+        }
+    }
+
+    // The reader's answer, counted.
+    fn counted(&mut self, answer: io::Result<usize>) -> Result<usize, Failed>
+        ensures told { IsTold answer result }
+        ensures counts { self.new ≡ record self.old {
+          faults = faults_read self.old.faults answer;
+          ends = ends_after self.old.ends answer;
+        } }
+        ensures cause { HasCause self.old.faults self.new.faults result }
+    {
+        match answer {
+            Ok(count) => {
+                count_end(&mut self.ends, count);
+                Ok(count)
+            }
+            Err(_) => {
+                raise(&mut self.faults);
+                Err(Failed)
+            }
+        }
     }
 }
 
@@ -49,21 +79,17 @@ impl<R: Read> Source for StdSource<R> {
 
     ghost faults = { λ s. s.faults };
 
+    ghost ends = { λ s. s.ends };
+
     fn read(&mut self, piece: &mut [u8]) -> Result<usize, Failed>
         ensures bound { ReadsAtMost result piece.new }
         ensures bytes { ReadConsumes (R.remaining self.old.inner) (R.remaining self.new.inner) result piece.new }
         ensures cause { HasCause self.old.faults self.new.faults result }
-        ensures count { MatchResult result
-            (λ _. self.new.faults ≡ self.old.faults)
-            (λ _. self.new.faults ≡ raised self.old.faults) }
+        ensures end { self.new.ends ≡ ends_after self.old.ends result }
+        ensures faults { self.new.faults ≡ faults_read self.old.faults result }
     {
-        match self.inner.read(piece) {
-            Ok(count) => Ok(count),
-            Err(_) => {
-                self.faults = self.faults.saturating_add(1);
-                Err(Failed)
-            }
-        }
+        let answer = self.inner.read(piece);
+        self.counted(answer)
     }
 }
 
@@ -74,9 +100,9 @@ pub struct StdSink<W> {
 }
 
 impl<W> Model for StdSink<W> {
-    ghost use Rattle.pm_io.specs.Devices.{Counted};
+    ghost use Rattle.pm_io.specs.Devices.{CountedWriter};
 
-    ghost Value = { Counted W };
+    ghost Value = { CountedWriter W };
 
     ghost view = { λ s. record { inner = s.inner; faults = s.faults } };
 }
@@ -90,6 +116,16 @@ impl<W: Drop> Drop for StdSink<W> {
     }
 }
 
+// The writer's answer, once what it took is flushed.
+fn write_through<W: Write>(writer: &mut W, piece: &[u8]) -> io::Result<usize>
+    ensures bound { WritesAtMost result piece.now }
+    ensures bytes { TakesFront (W.contents writer.old) (W.contents writer.new) result piece.now }
+{
+    let count = writer.write(piece)?;
+    writer.flush()?;
+    Ok(count)
+}
+
 impl<W: Write> StdSink<W> {
     /// A sink that hands its bytes to the writer.
     pub fn new(inner: W) -> StdSink<W>
@@ -97,20 +133,24 @@ impl<W: Write> StdSink<W> {
     {
         StdSink { inner, faults: 0 }
     }
-}
 
-// Some of the first bytes of the piece reach what stands behind the writer.
-fn write_through<W: Write>(writer: &mut W, piece: &[u8]) -> Result<usize, Failed>
-    ensures bound { WritesAtMost result piece.now }
-    ensures bytes { IfOk result (λ n. Appends (W.contents writer.old) (W.contents writer.new) (take n piece.now)) }
-{
-    let Ok(count) = writer.write(piece) else {
-        return Err(Failed);
-    };
-    if writer.flush().is_err() {
-        return Err(Failed);
+    // The writer's answer to a write of this piece, counted.
+    fn counted(&mut self, piece: &[u8], answer: io::Result<usize>) -> Result<usize, Failed>
+        ensures told { IsTold answer result }
+        ensures counts { self.new ≡ record self.old { faults = faults_written self.old.faults answer piece.now } }
+        ensures cause { HasWriteCause self.old.faults self.new.faults result piece.now }
+    {
+        match answer {
+            Ok(count) => {
+                count_none(&mut self.faults, count, piece);
+                Ok(count)
+            }
+            Err(_) => {
+                raise(&mut self.faults);
+                Err(Failed)
+            }
+        }
     }
-    Ok(count)
 }
 
 impl<W: Write> Sink for StdSink<W> {
@@ -123,18 +163,11 @@ impl<W: Write> Sink for StdSink<W> {
     // Failed also where the flush fails: how many of the bytes have gone through isn't known then.
     fn write(&mut self, piece: &[u8]) -> Result<usize, Failed>
         ensures bound { WritesAtMost result piece.now }
-        ensures bytes { IfOk result (λ n. Appends (W.contents self.old.inner) (W.contents self.new.inner) (take n piece.now)) }
-        ensures cause { HasCause self.old.faults self.new.faults result }
-        ensures nothing { TakesNothingByFault self.old.faults self.new.faults result piece.now }
-        ensures count { MatchResult result
-            (λ n. self.new.faults ≡ faults_after self.old.faults n piece.now)
-            (λ _. self.new.faults ≡ raised self.old.faults) }
+        ensures bytes { TakesFront (W.contents self.old.inner) (W.contents self.new.inner) result piece.now }
+        ensures cause { HasWriteCause self.old.faults self.new.faults result piece.now }
+        ensures faults { self.new.faults ≡ faults_written self.old.faults result piece.now }
     {
-        let written = write_through(&mut self.inner, piece);
-        let takes_nothing = matches!(written, Ok(0)) && !piece.is_empty();
-        if takes_nothing || written.is_err() {
-            self.faults = self.faults.saturating_add(1);
-        }
-        written
+        let answer = write_through(&mut self.inner, piece);
+        self.counted(piece, answer)
     }
 }

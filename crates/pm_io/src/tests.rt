@@ -2,7 +2,8 @@
 
 use crate::{CalmSink, CalmSource, MemSink, MemSource, StdSink, StdSource};
 use pm_model::{Failed, Sink, Source};
-use std::io::{Error, ErrorKind, Write};
+use std::io;
+use std::io::{Cursor, Error, ErrorKind, Read, Write};
 use std::process::Abort;
 use std::test::Fail;
 
@@ -49,25 +50,91 @@ fn sinks_take_up_to_their_room(rt: HostRuntime) -> Result<(), Fail> {
     Ok(())
 }
 
-// Takes all, and fails to hand it on.
+// Fails at its first call, then gives a byte, then none, and counts its calls.
 #[derive(Drop)]
-struct Clogged;
+struct Balky {
+    calls: usize,
+}
 
-impl Write for Clogged {
-    fn write(&mut self, buf: &[u8]) -> Result<usize, Error> {
-        Ok(buf.len())
-    }
-
-    fn flush(&mut self) -> Result<(), Error> {
-        Err(Error::from(ErrorKind::BrokenPipe))
+impl Read for Balky {
+    fn read(&mut self, buf: &mut [u8]) -> io::Result<usize> {
+        self.calls = self.calls.saturating_add(1);
+        match self.calls {
+            1 => Err(Error::from(ErrorKind::Interrupted)),
+            2 => Ok(buf.len().min(1)),
+            _ => Ok(0),
+        }
     }
 }
 
 #[test]
-fn a_writer_takes_what_its_sink_is_given(rt: HostRuntime) -> Result<(), Fail> {
+fn a_source_asks_its_reader_once_a_read(rt: HostRuntime) {
+    let mut reader = Balky { calls: 0 };
+    let answers = [Err(Failed), Ok(1), Ok(0), Ok(0)];
+    for (before, answer) in answers.iter().enumerate() {
+        assert_eq!(rt; reader.calls, before);
+        let mut source = StdSource::new(&mut reader);
+        assert_eq!(rt; source.read(&mut [0u8; 2]), *answer);
+    }
+    assert_eq!(rt; reader.calls, 4);
+}
+
+// Fails to take at its first call and to hand on at its second flush, and counts its calls.
+#[derive(Drop)]
+struct Clogged {
+    writes: usize,
+    flushes: usize,
+    taken: usize,
+}
+
+impl Write for Clogged {
+    fn write(&mut self, buf: &[u8]) -> io::Result<usize> {
+        self.writes = self.writes.saturating_add(1);
+        if self.writes == 1 {
+            return Err(Error::from(ErrorKind::Interrupted));
+        }
+        self.taken = self.taken.saturating_add(buf.len());
+        Ok(buf.len())
+    }
+
+    fn flush(&mut self) -> io::Result<()> {
+        self.flushes = self.flushes.saturating_add(1);
+        if self.flushes == 2 {
+            return Err(Error::from(ErrorKind::BrokenPipe));
+        }
+        Ok(())
+    }
+}
+
+#[test]
+fn a_sink_asks_its_writer_once_a_write(rt: HostRuntime) {
+    let mut writer = Clogged {
+        writes: 0,
+        flushes: 0,
+        taken: 0,
+    };
+    // What a write of three bytes answers, and how many flushes and bytes there are then.
+    let table = [
+        (Err(Failed), 0, 0),
+        (Ok(3), 1, 3),
+        (Err(Failed), 2, 6),
+        (Ok(3), 3, 9),
+    ];
+    for (before, (answer, flushes, taken)) in table.iter().enumerate() {
+        assert_eq!(rt; writer.writes, before);
+        writes(&rt, &mut StdSink::new(&mut writer), &[*answer]);
+        assert_eq!(rt; writer.flushes, *flushes);
+        assert_eq!(rt; writer.taken, *taken);
+    }
+    assert_eq!(rt; writer.writes, 4);
+}
+
+#[test]
+fn a_writer_takes_what_its_sink_is_given(rt: HostRuntime) {
     let mut held = Vec::new(rt.alloc());
     writes(&rt, &mut StdSink::new(&mut held), &[Ok(3), Ok(3)]);
     assert_eq!(rt; held.as_slice(), b"abcabc".as_slice());
-    writes(&rt, &mut StdSink::new(Clogged), &[Err(Failed)]);
-    Ok(())
+    let mut room = [0u8; 5];
+    let mut full = StdSink::new(Cursor::new(room.as_mut_slice()));
+    writes(&rt, &mut full, &[Ok(3), Ok(2), Ok(0)]);
 }
