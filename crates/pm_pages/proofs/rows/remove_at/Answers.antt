@@ -1,0 +1,18 @@
+use Rattle.std.proofs.lemmas.Result.{on_ok_weaker}
+use Rattle.pm_pages.specs.Listed.{items_of, without_item}
+use Rattle.pm_pages.proofs.Spots.{piece_read}
+use Rattle.pm_pages.proofs.Changed.{set_edited}
+use Rattle.pm_pages.proofs.rows.remove_at.Goals as goal
+
+pub remove_from-requires : goal.remove_from-requires
+remove_from-requires g c =
+    rw (← piece_read items_of c.args.pages.now.items c.args.k c.index_mut-page.result.now c.requires.page c.index_mut-page.ensures.value) c.requires.place
+
+pub returns-clause-pages : goal.returns-clause-pages
+returns-clause-pages g c =
+    on_ok_weaker c.remove_from.result (λ done. rw done
+    (set_edited (without_item c.args.j) c.args.pages.now.items c.args.k c.index_mut-page.result.now c.requires.page c.index_mut-page.ensures.value)) c.remove_from.ensures.page
+
+pub returns-clause-item : goal.returns-clause-item
+returns-clause-item g c =
+    rw (piece_read items_of c.args.pages.now.items c.args.k c.index_mut-page.result.now c.requires.page c.index_mut-page.ensures.value) c.remove_from.ensures.item

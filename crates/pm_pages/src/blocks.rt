@@ -1,0 +1,103 @@
+//! A block: some items, of which contracts see no room.
+
+ghost use Rattle.std.specs.Prelude.{◌≡◌, ◌<◌, ◌≤◌, [], ◌∷◌, Some, length, insert, slice_get, slice_set, OnOk, OnErr, IfOk};
+ghost use Rattle.std.specs.List.{remove};
+
+use crate::copies::CopyOf;
+use pm_model::Memory;
+use std::alloc::Global;
+use std::marker::Model;
+use std::mem::replace;
+
+#[derive(Drop)]
+pub(crate) struct Block<T> {
+    items: Vec<T>,
+}
+
+impl<T> Model for Block<T> {
+    ghost use Rattle.std.specs.Prelude.{List};
+
+    ghost Value = { List T };
+
+    ghost view = { λ b. b.items.items };
+}
+
+impl<T> Block<T> {
+    /// The block without items, which takes no memory.
+    pub(crate) fn empty(alloc: Global) -> Self
+        ensures { result ≡ [] }
+    {
+        Block {
+            items: Vec::new(alloc),
+        }
+    }
+
+    pub(crate) fn as_slice(&self) -> &[T]
+        ensures { result.now ≡ self.now }
+    {
+        self.items.as_slice()
+    }
+}
+
+impl<T: Drop> Block<T> {
+    /// The block of one item.
+    pub(crate) fn one(alloc: Global, item: T) -> Result<Self, Memory>
+        ensures { IfOk result (λ b. b ≡ item ∷ []) }
+    {
+        let mut block = Block::empty(alloc);
+        block.insert(0, item)?;
+        Ok(block)
+    }
+
+    /// Puts an item at a place. On Memory the block is as before.
+    pub(crate) fn insert(&mut self, i: usize, item: T) -> Result<(), Memory>
+        requires { i ≤ length self.old }
+        ensures ok { OnOk result (self.new ≡ insert self.old i item) }
+        ensures err { OnErr result (self.new ≡ self.old) }
+    {
+        match self.items.insert(i, item) {
+            Ok(()) => Ok(()),
+            Err(_) => Err(Memory),
+        }
+    }
+
+    /// Takes the item at a place out.
+    pub(crate) fn remove(&mut self, i: usize) -> T
+        requires { i < length self.old }
+        ensures item { slice_get self.old i ≡ Some result }
+        ensures rest { self.new ≡ remove self.old i }
+    {
+        self.items.remove(i)
+    }
+
+    /// Puts an item in the place of another, and answers the other.
+    pub(crate) fn replace(&mut self, i: usize, item: T) -> T
+        requires { i < length self.old }
+        ensures item { slice_get self.old i ≡ Some result }
+        ensures rest { self.new ≡ slice_set self.old i item }
+    {
+        replace(&mut self.items[i], item)
+    }
+}
+
+impl<T: CopyOf + Drop> Block<T> {
+    /// A block of the same items, with room for one more.
+    pub(crate) fn copy_of(alloc: Global, items: &[T]) -> Result<Self, Memory>
+        ensures { IfOk result (λ b. b ≡ items.now) }
+    {
+        Ok(Block {
+            items: copy_items(alloc, items)?,
+        })
+    }
+}
+
+fn copy_items<T: CopyOf + Drop>(alloc: Global, items: &[T]) -> Result<Vec<T>, Memory>
+    ensures { IfOk result (λ same. same.items ≡ items.now) }
+{
+    let mut same = Vec::with_capacity(alloc, items.len())?;
+    for item in items {
+        let again = item.copied()?;
+        same.push(again)?;
+    }
+    Ok(same)
+}

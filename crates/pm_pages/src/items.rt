@@ -1,0 +1,181 @@
+//! One item of a row of pages: found, written, put in and taken out, by its place in the list.
+
+ghost use Rattle.std.specs.Prelude.{◌≡◌, ℕ, ◌<◌, ◌≤◌, ◌+◌, ◌++◌, ◌∷◌, [], true, Some, length, insert, slice_get, slice_set, drop, OnOk, OnErr, IfOk, IsOk};
+ghost use Rattle.std.specs.List.{remove};
+ghost use Rattle.pm_pages.specs.Listed.{items_of, listed, all_own, starts_from, piece, IsSpot};
+
+use crate::copies::CopyOf;
+use crate::pages::{Page, items};
+use crate::places::page_of;
+use crate::rows::{drop_empty, insert_at, push_page, remove_at, replace_at, split_at};
+use pm_model::Memory;
+
+/// Where an item stands.
+#[derive(Clone, Copy)]
+pub(crate) struct Spot {
+    pub page: usize,
+    pub offset: usize,
+}
+
+/// Where item i stands.
+pub(crate) fn find<T>(pages: &[Page<T>], starts: &[usize], room: usize, i: usize) -> Spot
+    requires placed { starts.now ≡ starts_from items_of 0 pages.now }
+    requires within { i < length (listed pages.now) }
+    ensures spot { IsSpot items_of pages.now i result.page result.offset }
+    ensures page { result.page < length pages.now }
+    ensures offset { result.offset < length (piece items_of pages.now result.page) }
+{
+    let page = page_of(starts, room, i);
+    Spot {
+        page,
+        offset: i - starts[page],
+    }
+}
+
+/// The item at a spot.
+pub(crate) fn item_at<T>(pages: &[Page<T>], spot: Spot) -> &T
+    requires page { spot.page < length pages.now }
+    requires offset { spot.offset < length (piece items_of pages.now spot.page) }
+    ensures { slice_get (piece items_of pages.now spot.page) spot.offset ≡ Some result.now }
+{
+    let page = &pages[spot.page];
+    &items(page)[spot.offset]
+}
+
+fn from<T>(items: &[T], start: usize) -> &[T]
+    requires { start ≤ length items.now }
+    ensures { result.now ≡ drop start items.now }
+{
+    let (_before, behind) = items.split_at(start);
+    behind
+}
+
+/// The items of a page from a spot on.
+pub(crate) fn items_from<T>(pages: &[Page<T>], spot: Spot) -> &[T]
+    requires page { spot.page < length pages.now }
+    requires offset { spot.offset < length (piece items_of pages.now spot.page) }
+    ensures { result.now ≡ drop spot.offset (piece items_of pages.now spot.page) }
+{
+    let page = &pages[spot.page];
+    from(items(page), spot.offset)
+}
+
+/// Puts an item in the place of item i, and answers that.
+pub(crate) fn set_item<T: CopyOf + Drop>(
+    pages: &mut Vec<Page<T>>,
+    spot: Spot,
+    item: T,
+) -> Result<T, Memory>
+    requires page { spot.page < length pages.old.items }
+    requires offset { spot.offset < length (piece items_of pages.old.items spot.page) }
+    ensures items { (i : ℕ) → IsSpot items_of pages.old.items i spot.page spot.offset → OnOk result (listed pages.new.items ≡ slice_set (listed pages.old.items) i item) }
+    ensures before { IfOk result (λ before. slice_get (piece items_of pages.old.items spot.page) spot.offset ≡ Some before) }
+    ensures starts { starts_from items_of 0 pages.new.items ≡ starts_from items_of 0 pages.old.items }
+    ensures err { OnErr result (pages.new.items ≡ pages.old.items) }
+    ensures alone { all_own pages.old.items ≡ true → IsOk result }
+    ensures stays { all_own pages.old.items ≡ true → all_own pages.new.items ≡ true }
+{
+    replace_at(pages, spot.page, spot.offset, item)
+}
+
+/// Takes an item out. A page without items goes.
+pub(crate) fn take_item<T: CopyOf + Drop>(pages: &mut Vec<Page<T>>, spot: Spot) -> Result<T, Memory>
+    requires page { spot.page < length pages.old.items }
+    requires offset { spot.offset < length (piece items_of pages.old.items spot.page) }
+    ensures items { (i : ℕ) → IsSpot items_of pages.old.items i spot.page spot.offset → OnOk result (listed pages.new.items ≡ remove (listed pages.old.items) i) }
+    ensures item { IfOk result (λ item. slice_get (piece items_of pages.old.items spot.page) spot.offset ≡ Some item) }
+    ensures pages { length pages.new.items ≤ length pages.old.items }
+    ensures err { OnErr result (pages.new.items ≡ pages.old.items) }
+    ensures alone { all_own pages.old.items ≡ true → IsOk result }
+    ensures stays { all_own pages.old.items ≡ true → all_own pages.new.items ≡ true }
+{
+    let item = remove_at(pages, spot.page, spot.offset)?;
+    drop_empty(pages, spot.page);
+    Ok(item)
+}
+
+/// Puts an item at a spot. A page with no room becomes two.
+pub(crate) fn put_item<T: CopyOf + Drop>(
+    pages: &mut Vec<Page<T>>,
+    room: usize,
+    spot: Spot,
+    item: T,
+) -> Result<(), Memory>
+    requires page { spot.page < length pages.old.items }
+    requires offset { spot.offset < length (piece items_of pages.old.items spot.page) }
+    ensures items { (i : ℕ) → IsSpot items_of pages.old.items i spot.page spot.offset → OnOk result (listed pages.new.items ≡ insert (listed pages.old.items) i item) }
+    ensures pages { length pages.new.items ≤ length pages.old.items + 1 }
+    ensures err { OnErr result (pages.new.items ≡ pages.old.items) }
+    ensures stays { all_own pages.old.items ≡ true → all_own pages.new.items ≡ true }
+{
+    let page = &pages[spot.page];
+    if items(page).len() < room {
+        return insert_at(pages, spot.page, spot.offset, item);
+    }
+    split_at(pages, spot.page, spot.offset, item)
+}
+
+/// Puts an item behind the others, in the last page.
+fn push_last<T: CopyOf + Drop>(pages: &mut Vec<Page<T>>, item: T) -> Result<(), Memory>
+    requires { 0 < length pages.old.items }
+    ensures items { OnOk result (listed pages.new.items ≡ listed pages.old.items ++ item ∷ []) }
+    ensures starts { starts_from items_of 0 pages.new.items ≡ starts_from items_of 0 pages.old.items }
+    ensures err { OnErr result (pages.new.items ≡ pages.old.items) }
+    ensures stays { all_own pages.old.items ≡ true → all_own pages.new.items ≡ true }
+{
+    let k = pages.len() - 1;
+    let page = &pages[k];
+    let end = items(page).len();
+    insert_at(pages, k, end, item)
+}
+
+/// Whether the last page has room for one more.
+fn has_room<T>(pages: &[Page<T>], room: usize) -> bool
+    ensures { result ≡ true → 0 < length pages.now }
+{
+    match pages.last() {
+        Some(page) => items(page).len() < room,
+        None => false,
+    }
+}
+
+/// Puts an item behind the others, in a page of its own.
+fn push_new<T: Drop>(
+    pages: &mut Vec<Page<T>>,
+    starts: &mut Vec<usize>,
+    count: usize,
+    item: T,
+) -> Result<(), Memory>
+    requires placed { starts.old.items ≡ starts_from items_of 0 pages.old.items }
+    requires count { count ≡ length (listed pages.old.items) }
+    ensures items { OnOk result (listed pages.new.items ≡ listed pages.old.items ++ item ∷ []) }
+    ensures placed { starts.new.items ≡ starts_from items_of 0 pages.new.items }
+    ensures err { OnErr result (pages.new.items ≡ pages.old.items) }
+    ensures stays { all_own pages.old.items ≡ true → all_own pages.new.items ≡ true }
+{
+    starts.reserve(1)?;
+    push_page(pages, item)?;
+    starts.push_reserved(count);
+    Ok(())
+}
+
+/// Puts an item behind the others.
+pub(crate) fn push_item<T: CopyOf + Drop>(
+    pages: &mut Vec<Page<T>>,
+    starts: &mut Vec<usize>,
+    room: usize,
+    count: usize,
+    item: T,
+) -> Result<(), Memory>
+    requires placed { starts.old.items ≡ starts_from items_of 0 pages.old.items }
+    requires count { count ≡ length (listed pages.old.items) }
+    ensures items { OnOk result (listed pages.new.items ≡ listed pages.old.items ++ item ∷ []) }
+    ensures placed { starts.new.items ≡ starts_from items_of 0 pages.new.items }
+    ensures err { OnErr result (pages.new.items ≡ pages.old.items) }
+    ensures stays { all_own pages.old.items ≡ true → all_own pages.new.items ≡ true }
+{
+    if has_room(pages, room) {
+        return push_last(pages, item);
+    }
+    push_new(pages, starts, count, item)
+}

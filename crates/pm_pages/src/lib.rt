@@ -1,0 +1,19 @@
+//! Lists whose copies share pages.
+//!
+//! A page that two lists share is behind an `Arc`, and nothing is ever written there: an `Arc` gives a
+//! `&mut`, or its value, only to a sole owner. So a change of one list never shows in another.
+#![tactic(auto)]
+
+mod blocks;
+mod copies;
+mod items;
+mod list;
+mod pages;
+mod places;
+mod rows;
+
+pub use copies::CopyOf;
+pub use list::PageList;
+
+#[cfg(test)]
+mod tests;

@@ -1,0 +1,255 @@
+//! A page: its own list's, or shared with copies of the list.
+
+ghost use Rattle.std.specs.Prelude.{◌≡◌, ◌<◌, ◌≤◌, ◌++◌, true, Some, length, insert, slice_get, OnOk, OnErr, IfOk, IfErr, IsOk};
+ghost use Rattle.std.specs.List.{remove};
+ghost use Rattle.pm_pages.specs.Listed.{items_of, is_own, with_item, without_item, changed_item, owned};
+
+use crate::blocks::Block;
+use crate::copies::CopyOf;
+use pm_model::Memory;
+use std::alloc::Global;
+use std::mem::replace;
+use std::sync::Arc;
+
+/// Some items of a list that stand together.
+#[derive(Drop)]
+pub(crate) enum Page<T> {
+    /// No other list has the page.
+    Own(Block<T>),
+    /// Other lists may have the page too.
+    Shared(Arc<Block<T>>),
+}
+
+/// The items of a page.
+pub(crate) fn items<T>(page: &Page<T>) -> &[T]
+    ensures { result.now ≡ items_of page.now }
+{
+    match page {
+        Page::Own(block) => block.as_slice(),
+        Page::Shared(block) => block.as_slice(),
+    }
+}
+
+/// The items of a page to be written: its own, or a copy where another list has the page.
+fn writable<T: CopyOf + Drop>(alloc: Global, page: Page<T>) -> Result<Block<T>, Page<T>>
+    ensures ok { IfOk result (λ block. block ≡ items_of page) }
+    ensures err { IfErr result (λ same. same ≡ page) }
+    ensures own { is_own page ≡ true → IsOk result }
+{
+    match page {
+        Page::Own(block) => Ok(block),
+        Page::Shared(shared) => unshared(alloc, shared),
+    }
+}
+
+fn unshared<T: CopyOf + Drop>(alloc: Global, shared: Arc<Block<T>>) -> Result<Block<T>, Page<T>>
+    ensures ok { IfOk result (λ block. block ≡ items_of (Page.Shared shared)) }
+    ensures err { IfErr result (λ same. same ≡ Page.Shared shared) }
+{
+    match Arc::try_unwrap(shared) {
+        Ok(block) => Ok(block),
+        Err(shared) => match Block::copy_of(alloc, shared.as_slice()) {
+            Ok(block) => Ok(block),
+            Err(_) => Err(Page::Shared(shared)),
+        },
+    }
+}
+
+/// Takes a page's content out, to be put back.
+fn take<T>(alloc: Global, page: &mut Page<T>) -> Page<T>
+    ensures { result ≡ page.old }
+{
+    replace(page, Page::Own(Block::empty(alloc)))
+}
+
+/// Takes the item at a place out of a page.
+pub(crate) fn remove_from<T: CopyOf + Drop>(
+    alloc: Global,
+    page: &mut Page<T>,
+    j: usize,
+) -> Result<T, Memory>
+    requires { j < length (items_of page.old) }
+    ensures page { OnOk result (page.new ≡ without_item j page.old) }
+    ensures item { IfOk result (λ item. slice_get (items_of page.old) j ≡ Some item) }
+    ensures err { OnErr result (page.new ≡ page.old) }
+    ensures own { is_own page.old ≡ true → IsOk result }
+{
+    match writable(alloc, take(alloc, page)) {
+        Ok(mut block) => {
+            let item = block.remove(j);
+            *page = Page::Own(block);
+            Ok(item)
+        }
+        Err(same) => {
+            *page = same;
+            Err(Memory)
+        }
+    }
+}
+
+/// Puts an item in the place of another in a page, and answers the other.
+pub(crate) fn replace_in<T: CopyOf + Drop>(
+    alloc: Global,
+    page: &mut Page<T>,
+    j: usize,
+    item: T,
+) -> Result<T, Memory>
+    requires { j < length (items_of page.old) }
+    ensures page { OnOk result (page.new ≡ changed_item j item page.old) }
+    ensures item { IfOk result (λ before. slice_get (items_of page.old) j ≡ Some before) }
+    ensures err { OnErr result (page.new ≡ page.old) }
+    ensures own { is_own page.old ≡ true → IsOk result }
+{
+    match writable(alloc, take(alloc, page)) {
+        Ok(mut block) => {
+            let before = block.replace(j, item);
+            *page = Page::Own(block);
+            Ok(before)
+        }
+        Err(same) => {
+            *page = same;
+            Err(Memory)
+        }
+    }
+}
+
+/// The items of a page with one more.
+fn with_one<T: CopyOf + Drop>(
+    alloc: Global,
+    page: Page<T>,
+    j: usize,
+    item: T,
+) -> Result<Block<T>, Page<T>>
+    requires { j ≤ length (items_of page) }
+    ensures ok { IfOk result (λ block. block ≡ insert (items_of page) j item) }
+    ensures err { IfErr result (λ same. same ≡ page) }
+{
+    match page {
+        Page::Own(mut block) => match block.insert(j, item) {
+            Ok(()) => Ok(block),
+            Err(_) => Err(Page::Own(block)),
+        },
+        Page::Shared(shared) => match block_with(alloc, shared.as_slice(), j, item) {
+            Ok(block) => Ok(block),
+            Err(_) => Err(Page::Shared(shared)),
+        },
+    }
+}
+
+/// Puts an item at a place of a page.
+pub(crate) fn insert_into<T: CopyOf + Drop>(
+    alloc: Global,
+    page: &mut Page<T>,
+    j: usize,
+    item: T,
+) -> Result<(), Memory>
+    requires { j ≤ length (items_of page.old) }
+    ensures page { OnOk result (page.new ≡ with_item j item page.old) }
+    ensures err { OnErr result (page.new ≡ page.old) }
+{
+    match with_one(alloc, take(alloc, page), j, item) {
+        Ok(block) => {
+            *page = Page::Own(block);
+            Ok(())
+        }
+        Err(same) => {
+            *page = same;
+            Err(Memory)
+        }
+    }
+}
+
+/// Lets a page be the list's own.
+pub(crate) fn own<T: CopyOf + Drop>(alloc: Global, page: &mut Page<T>) -> Result<(), Memory>
+    ensures page { OnOk result (page.new ≡ owned page.old) }
+    ensures err { OnErr result (page.new ≡ page.old) }
+    ensures own { is_own page.old ≡ true → IsOk result }
+{
+    match writable(alloc, take(alloc, page)) {
+        Ok(block) => {
+            *page = Page::Own(block);
+            Ok(())
+        }
+        Err(same) => {
+            *page = same;
+            Err(Memory)
+        }
+    }
+}
+
+/// Lets a page be shared. It takes memory where it wasn't.
+pub(crate) fn share<T: Drop>(alloc: Global, page: &mut Page<T>) -> Result<(), Memory>
+    ensures { items_of page.new ≡ items_of page.old }
+{
+    match shared(alloc, take(alloc, page)) {
+        Ok(same) => {
+            *page = same;
+            Ok(())
+        }
+        Err(same) => {
+            *page = same;
+            Err(Memory)
+        }
+    }
+}
+
+/// A copy of the items with one more.
+fn block_with<T: CopyOf + Drop>(
+    alloc: Global,
+    items: &[T],
+    j: usize,
+    item: T,
+) -> Result<Block<T>, Memory>
+    requires { j ≤ length items.now }
+    ensures { IfOk result (λ block. block ≡ insert items.now j item) }
+{
+    let mut block = Block::copy_of(alloc, items)?;
+    block.insert(j, item)?;
+    Ok(block)
+}
+
+/// Copies of the items in two halves, with one more.
+pub(crate) fn halves_with<T: CopyOf + Drop>(
+    alloc: Global,
+    items: &[T],
+    j: usize,
+    item: T,
+) -> Result<(Block<T>, Block<T>), Memory>
+    requires { j ≤ length items.now }
+    ensures { IfOk result (λ halves. halves.0 ++ halves.1 ≡ insert items.now j item) }
+{
+    let middle = items.len() / 2;
+    let (head, tail) = items.split_at(middle);
+    if j <= middle {
+        let first = block_with(alloc, head, j, item)?;
+        let second = Block::copy_of(alloc, tail)?;
+        return Ok((first, second));
+    }
+    let first = Block::copy_of(alloc, head)?;
+    let second = block_with(alloc, tail, j - middle, item)?;
+    Ok((first, second))
+}
+
+/// The same page once more, which shares its items where they are shared already.
+pub(crate) fn copy_page<T: CopyOf + Drop>(alloc: Global, page: &Page<T>) -> Result<Page<T>, Memory>
+    ensures { IfOk result (λ same. items_of same ≡ items_of page.now) }
+{
+    match page {
+        Page::Own(block) => Ok(Page::Own(Block::copy_of(alloc, block.as_slice())?)),
+        Page::Shared(shared) => Ok(Page::Shared(Arc::try_clone(shared)?)),
+    }
+}
+
+/// The page to be shared. It takes memory where it wasn't.
+fn shared<T: Drop>(alloc: Global, page: Page<T>) -> Result<Page<T>, Page<T>>
+    ensures ok { IfOk result (λ same. items_of same ≡ items_of page) }
+    ensures err { IfErr result (λ same. same ≡ page) }
+{
+    match page {
+        Page::Own(block) => match Arc::new(alloc, block) {
+            Ok(shared) => Ok(Page::Shared(shared)),
+            Err(failed) => Err(Page::Own(failed.value)),
+        },
+        Page::Shared(shared) => Ok(Page::Shared(shared)),
+    }
+}

@@ -1,0 +1,181 @@
+//! Rows of pages: one page written, put in or taken out.
+
+ghost use Rattle.std.specs.Prelude.{◌≡◌, ◌<◌, ◌≤◌, ◌+◌, ◌++◌, ◌∷◌, [], true, Some, length, insert, slice_get, map, vec_capacity, OnOk, OnErr, IfOk, IsOk};
+ghost use Rattle.std.specs.List.{remove};
+ghost use Rattle.pm_pages.specs.Listed.{items_of, listed, all_own, starts_from, piece, edited, with_item, without_item, changed_item, owned, IsSplit, without_empty};
+
+use crate::blocks::Block;
+use crate::copies::CopyOf;
+use crate::pages::{
+    Page, copy_page, halves_with, insert_into, items, own, remove_from, replace_in, share,
+};
+use pm_model::Memory;
+use std::alloc::Global;
+
+/// Takes the item at a place of a page out of the page.
+pub(crate) fn remove_at<T: CopyOf + Drop>(
+    pages: &mut Vec<Page<T>>,
+    k: usize,
+    j: usize,
+) -> Result<T, Memory>
+    requires page { k < length pages.old.items }
+    requires place { j < length (piece items_of pages.old.items k) }
+    ensures pages { OnOk result (pages.new.items ≡ edited (without_item j) k pages.old.items) }
+    ensures item { IfOk result (λ item. slice_get (piece items_of pages.old.items k) j ≡ Some item) }
+    ensures err { OnErr result (pages.new.items ≡ pages.old.items) }
+    ensures own { all_own pages.old.items ≡ true → IsOk result }
+{
+    let alloc = *pages.allocator();
+    let page = &mut pages[k];
+    remove_from(alloc, page, j)
+}
+
+/// Puts an item in the place of another, and answers the other.
+pub(crate) fn replace_at<T: CopyOf + Drop>(
+    pages: &mut Vec<Page<T>>,
+    k: usize,
+    j: usize,
+    item: T,
+) -> Result<T, Memory>
+    requires page { k < length pages.old.items }
+    requires place { j < length (piece items_of pages.old.items k) }
+    ensures pages { OnOk result (pages.new.items ≡ edited (changed_item j item) k pages.old.items) }
+    ensures item { IfOk result (λ before. slice_get (piece items_of pages.old.items k) j ≡ Some before) }
+    ensures err { OnErr result (pages.new.items ≡ pages.old.items) }
+    ensures own { all_own pages.old.items ≡ true → IsOk result }
+{
+    let alloc = *pages.allocator();
+    let page = &mut pages[k];
+    replace_in(alloc, page, j, item)
+}
+
+/// Puts an item at a place of a page.
+pub(crate) fn insert_at<T: CopyOf + Drop>(
+    pages: &mut Vec<Page<T>>,
+    k: usize,
+    j: usize,
+    item: T,
+) -> Result<(), Memory>
+    requires page { k < length pages.old.items }
+    requires place { j ≤ length (piece items_of pages.old.items k) }
+    ensures pages { OnOk result (pages.new.items ≡ edited (with_item j item) k pages.old.items) }
+    ensures err { OnErr result (pages.new.items ≡ pages.old.items) }
+{
+    let alloc = *pages.allocator();
+    let page = &mut pages[k];
+    insert_into(alloc, page, j, item)
+}
+
+/// Puts an item at a place of a page, and makes two pages of it.
+pub(crate) fn split_at<T: CopyOf + Drop>(
+    pages: &mut Vec<Page<T>>,
+    k: usize,
+    j: usize,
+    item: T,
+) -> Result<(), Memory>
+    requires page { k < length pages.old.items }
+    requires place { j ≤ length (piece items_of pages.old.items k) }
+    ensures pages { OnOk result (IsSplit k j item pages.old.items pages.new.items) }
+    ensures err { OnErr result (pages.new.items ≡ pages.old.items) }
+{
+    let alloc = *pages.allocator();
+    let page = &pages[k];
+    let (head, tail) = halves_with(alloc, items(page), j, item)?;
+    pages.insert(k + 1, Page::Own(tail))?;
+    let page = &mut pages[k];
+    *page = Page::Own(head);
+    Ok(())
+}
+
+/// Puts a page of one item behind the others.
+pub(crate) fn push_page<T: Drop>(pages: &mut Vec<Page<T>>, item: T) -> Result<(), Memory>
+    ensures ok { OnOk result (pages.new.items ≡ pages.old.items ++ Page.Own (item ∷ []) ∷ []) }
+    ensures err { OnErr result (pages.new.items ≡ pages.old.items) }
+{
+    let alloc = *pages.allocator();
+    let block = Block::one(alloc, item)?;
+    pages.push(Page::Own(block))?;
+    Ok(())
+}
+
+/// Takes a page without items out.
+pub(crate) fn drop_empty<T: Drop>(pages: &mut Vec<Page<T>>, k: usize)
+    requires { k < length pages.old.items }
+    ensures { pages.new.items ≡ without_empty k pages.old.items }
+{
+    if items(&pages[k]).is_empty() {
+        let _empty = pages.remove(k);
+    }
+}
+
+/// Where the pages begin, anew.
+pub(crate) fn restart<T>(starts: &mut Vec<usize>, pages: &[Page<T>], count: usize)
+    requires places { length pages.now ≤ vec_capacity starts.old }
+    requires count { count ≡ length (listed pages.now) }
+    ensures { starts.new.items ≡ starts_from items_of 0 pages.now }
+{
+    starts.clear();
+    let mut begin = 0;
+    for page in pages {
+        starts.push_reserved(begin);
+        begin += items(page).len();
+    }
+}
+
+/// The same pages once more.
+pub(crate) fn copy_pages<T: CopyOf + Drop>(
+    alloc: Global,
+    pages: &[Page<T>],
+) -> Result<Vec<Page<T>>, Memory>
+    ensures { IfOk result (λ same. map items_of same.items ≡ map items_of pages.now) }
+{
+    let mut same = Vec::with_capacity(alloc, pages.len())?;
+    for page in pages {
+        let again = copy_page(alloc, page)?;
+        same.push(again)?;
+    }
+    Ok(same)
+}
+
+/// Lets each page be shared.
+pub(crate) fn share_pages<T: Drop>(pages: &mut Vec<Page<T>>) -> Result<(), Memory>
+    ensures { map items_of pages.new.items ≡ map items_of pages.old.items }
+{
+    let alloc = *pages.allocator();
+    for k in 0..pages.len() {
+        share_at(alloc, pages, k)?;
+    }
+    Ok(())
+}
+
+fn share_at<T: Drop>(alloc: Global, pages: &mut Vec<Page<T>>, k: usize) -> Result<(), Memory>
+    requires { k < length pages.old.items }
+    ensures { map items_of pages.new.items ≡ map items_of pages.old.items }
+{
+    let page = &mut pages[k];
+    share(alloc, page)
+}
+
+/// Lets each page be the list's own.
+pub(crate) fn own_pages<T: CopyOf + Drop>(pages: &mut Vec<Page<T>>) -> Result<(), Memory>
+    ensures items { map items_of pages.new.items ≡ map items_of pages.old.items }
+    ensures ok { OnOk result (all_own pages.new.items ≡ true) }
+    ensures own { all_own pages.old.items ≡ true → IsOk result }
+    ensures err { OnErr result (all_own pages.new.items ≡ all_own pages.old.items) }
+{
+    let alloc = *pages.allocator();
+    for k in 0..pages.len() {
+        own_at(alloc, pages, k)?;
+    }
+    Ok(())
+}
+
+fn own_at<T: CopyOf + Drop>(alloc: Global, pages: &mut Vec<Page<T>>, k: usize) -> Result<(), Memory>
+    requires { k < length pages.old.items }
+    ensures pages { OnOk result (pages.new.items ≡ edited owned k pages.old.items) }
+    ensures err { OnErr result (pages.new.items ≡ pages.old.items) }
+    ensures own { all_own pages.old.items ≡ true → IsOk result }
+{
+    let page = &mut pages[k];
+    own(alloc, page)
+}
