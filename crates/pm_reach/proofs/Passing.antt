@@ -1,0 +1,103 @@
+-- One number more of a pass.
+use Rattle.std.proofs.Common.{◌≡◌, ◌≢◌, ℕ, zero, suc, ◌+◌, ◌-◌, add-one, ◌<◌, ◌≤◌, Bool, true, false, List, Option, Some, None, is_some, refl, sym, ap, ◌∙◌, arith, inl, inr}
+use Rattle.std.proofs.lemmas.Bool.{cases_eq, true≢false, false≢true}
+use Rattle.pm_reach.specs.Rows.{place_at, row_has, has, below, count_of, most}
+use Rattle.pm_reach.specs.Table.{Table, IsReady, Writes}
+use Rattle.pm_reach.specs.Passes.{Rewrites, Passed}
+
+below-has : (o : Option (List ℕ)) (q : ℕ) → row_has o q ≡ true → is_some o ≡ true
+below-has None q h = absurd (false≢true h)
+below-has (Some row) q h = refl
+
+-- what is contained in something has a row
+pub has_below : (rows : List (List (Option (List ℕ)))) (p q : ℕ) → below rows p q ≡ true → has rows p ≡ true
+has_below rows p q h = below-has (place_at rows p) q h
+
+-- ---- counts
+
+count-yes : (test : ℕ → Bool) (n : ℕ) → test n ≡ true → count_of test (n + 1) ≡ count_of test n + 1
+unfolding count_of
+count-yes test n h = rw (add-one n, h) (omega arith)
+
+count-no : (test : ℕ → Bool) (n : ℕ) → test n ≡ false → count_of test (n + 1) ≡ count_of test n
+unfolding count_of
+count-no test n h = rw (add-one n, h) (omega arith)
+
+count-none : (test : ℕ → Bool) → count_of test 0 ≡ 0
+unfolding count_of
+count-none test = refl
+
+-- where none from n on passes, a higher bound makes no difference
+count-past : (test : ℕ → Bool) (n m : ℕ) → ((k : ℕ) → n ≤ k → test k ≡ false) → count_of test (m + n) ≡ count_of test n
+unfolding count_of
+count-past test n zero h = ap (count_of test) (omega arith)
+count-past test n (suc m) h =
+    let next : suc m + n ≡ suc (m + n) = omega arith in
+    rw (next, h (m + n) (omega arith)) (omega (arith, count-past test n m h))
+
+pub count-all : (test : ℕ → Bool) (n m : ℕ) → n ≤ m → ((k : ℕ) → n ≤ k → test k ≡ false) → count_of test m ≡ count_of test n
+count-all test n m l h = let e : m ≡ (m - n) + n = omega arith in rw e (count-past test n (m - n) h)
+
+-- ---- passes
+
+pub Passed-none : {x n : ℕ} {made : ℕ → ℕ → Bool} {old : Table} → ((p : ℕ) → below old.rows p x ≡ true → IsReady old p n) → Passed x n made old old 0 0
+Passed-none {x} {old = old} ready = record {
+  within = λ p l h q. absurd (omega arith);
+  others = λ p h. refl;
+  rest = λ p l. refl;
+  live = λ p. refl;
+  ready = λ p l h. ready p h;
+  count = sym (count-none (λ p. below old.rows p x));
+}
+
+same_below : {o o' : Option (List ℕ)} → o ≡ o' → (q : ℕ) → row_has o q ≡ row_has o' q
+same_below e q = ap (λ o. row_has o q) e
+
+pub Passed-yes : {x n : ℕ} {made : ℕ → ℕ → Bool} {old now new : Table} {z written : ℕ} → Passed x n made old now z written →
+    below now.rows z x ≡ true → Writes z now new → ((q : ℕ) → below new.rows z q ≡ made z q) → Passed x n made old new (z + 1) (written + 1)
+Passed-yes {x} {n} {made} {old} {now} {new} {z} {written} a is w row =
+    let was : below old.rows z x ≡ true = sym (same_below (a.rest z (omega arith)) x) ∙ is in
+    record {
+      within = λ p l h q. elim (cases_eq p z) [
+        | inl e ↦ rw e (row q)
+        | inr ne ↦ same_below (w.others p ne) q ∙ a.within p (omega arith) h q
+      ];
+      others = λ p h. elim (cases_eq p z) [
+        | inl e ↦ absurd (true≢false (sym was ∙ rw e at h))
+        | inr ne ↦ w.others p ne ∙ a.others p h
+      ];
+      rest = λ p l. let ne : p ≢ z = omega arith in w.others p ne ∙ a.rest p (omega arith);
+      live = λ p. w.has p ∙ a.live p;
+      ready = λ p l h. let ne : p ≢ z = omega arith in w.ready p n ne (a.ready p (omega arith) h);
+      count = rw a.count (sym (count-yes (λ p. below old.rows p x) z was));
+    }
+
+pub Passed-no : {x n : ℕ} {made : ℕ → ℕ → Bool} {old now : Table} {z written : ℕ} → Passed x n made old now z written →
+    below now.rows z x ≡ false → Passed x n made old now (z + 1) written
+Passed-no {x} {n} {made} {old} {now} {z} {written} a not =
+    let was : below old.rows z x ≡ false = sym (same_below (a.rest z (omega arith)) x) ∙ not in
+    record {
+      within = λ p l h q. elim (cases_eq p z) [
+        | inl e ↦ absurd (false≢true (sym was ∙ rw e at h))
+        | inr ne ↦ a.within p (omega arith) h q
+      ];
+      others = a.others;
+      rest = λ p l. a.rest p (omega arith);
+      live = a.live;
+      ready = λ p l h. a.ready p (omega arith) h;
+      count = a.count ∙ sym (count-no (λ p. below old.rows p x) z was);
+    }
+
+pub Passed-all : {x n : ℕ} {made : ℕ → ℕ → Bool} {old now : Table} {z written : ℕ} → Passed x n made old now z written →
+    ((p : ℕ) → has old.rows p ≡ true → p < z) → z ≤ most → Rewrites x made old.rows now.rows written
+Passed-all {x} {n} {made} {old} {now} {z} {written} a short few = record {
+  within = λ p h q. a.within p (short p (has_below old.rows p x h)) h q;
+  others = a.others;
+  live = a.live;
+  count = a.count ∙ sym (count-all (λ p. below old.rows p x) z most few past);
+} where
+  past : (p : ℕ) → z ≤ p → below old.rows p x ≡ false
+  past p l = go (below old.rows p x) refl where
+    go : (b : Bool) → below old.rows p x ≡ b → b ≡ false
+    go false e = refl
+    go true e = let s : p < z = short p (has_below old.rows p x e) in absurd (omega arith)

@@ -1,0 +1,24 @@
+-- One number more was passed.
+use Rattle.std.proofs.Common.{arith, sym, refl, ◌∙◌}
+use Rattle.pm_reach.proofs.Passing.{Passed-none, Passed-yes, Passed-no, Passed-all}
+use Rattle.pm_reach.proofs.changes.join_all.Goals as goal
+use Rattle.pm_reach.proofs.changes.join_all.Goals.{then-has, else-has}
+
+pub loop-z-init : goal.loop-z-init
+loop-z-init c = record { few = omega arith; passed = Passed-none c.requires }
+
+pub loop-z-preserved : goal.loop-z-preserved
+loop-z-preserved c = elim c.if-has.branch [
+  | then-has w ↦ record {
+    few = rw w.written-is (omega (arith, c.loop-z.invariant.few));
+    passed = rw (w.table-is, w.written-is) (Passed-yes c.loop-z.invariant.passed (sym w.if-has.ensures) w.join.ensures.writes
+        (λ q. w.join.ensures.row q ∙ rw (c.loop-z.invariant.passed.rest c.loop-z.z (omega arith)) refl));
+  }
+  | else-has w ↦ record {
+    few = rw w.written-is (omega (arith, c.loop-z.invariant.few));
+    passed = rw (w.table-is, w.written-is) (Passed-no c.loop-z.invariant.passed (sym w.if-has.ensures));
+  }
+]
+
+pub returns : goal.returns
+returns c = Passed-all c.loop-z.invariant.passed (λ p h. let below = c.len-size.ensures.within p h in omega (arith, below)) (omega (arith, c.loop-z.auto.z-end, c.len-size.ensures.most))

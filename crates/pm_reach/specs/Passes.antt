@@ -1,0 +1,20 @@
+-- A pass over the rows, which writes the row of each element that is contained in x.
+use Rattle.std.specs.Prelude.{◌≡◌, ◌<◌, ◌≤◌, ℕ, Bool, true, false, List, Option}
+use Rattle.pm_reach.specs.Rows.{place_at, has, below, count_of, inside}
+use Rattle.pm_reach.specs.Table.{Table, IsReady}
+
+-- these rows have what `made` says, the others are as they were, and so many were written
+pub record Rewrites (x : ℕ) (made : ℕ → ℕ → Bool) (old new : List (List (Option (List ℕ)))) (written : ℕ) : Type 0 where
+  pub within : (p : ℕ) → below old p x ≡ true → (q : ℕ) → below new p q ≡ made p q
+  pub others : (p : ℕ) → below old p x ≡ false → place_at new p ≡ place_at old p
+  pub live : (p : ℕ) → has new p ≡ has old p
+  pub count : written ≡ inside old x
+
+-- the numbers below z were passed; the rows still to be written are ready for n words
+pub record Passed (x n : ℕ) (made : ℕ → ℕ → Bool) (old now : Table) (z written : ℕ) : Type 0 where
+  pub within : (p : ℕ) → p < z → below old.rows p x ≡ true → (q : ℕ) → below now.rows p q ≡ made p q
+  pub others : (p : ℕ) → below old.rows p x ≡ false → place_at now.rows p ≡ place_at old.rows p
+  pub rest : (p : ℕ) → z ≤ p → place_at now.rows p ≡ place_at old.rows p
+  pub live : (p : ℕ) → has now.rows p ≡ has old.rows p
+  pub ready : (p : ℕ) → z ≤ p → below old.rows p x ≡ true → IsReady now p n
+  pub count : written ≡ count_of (λ p. below old.rows p x) z

@@ -1,0 +1,262 @@
+//! A page: the rows of 64 numbers. It ends behind its last row.
+
+ghost use Rattle.std.specs.Prelude.{◌≡◌, ◌≢◌, ℕ, ◌<◌, ◌≤◌, ◌==◌, ◌||◌, [], true, false, None, Some, length, slice_set, vec_len, vec_capacity, option_map, is_some, IfOk, IfErr, OnOk, OnErr, IsSome};
+ghost use Rattle.std.specs.List.{list_any};
+ghost use Rattle.std.specs.Option.{option_copied};
+ghost use Rattle.pm_reach.specs.Words.{in_row};
+ghost use Rattle.pm_reach.specs.Rows.{option_at, row_has};
+ghost use Rattle.pm_reach.specs.Table.{value_of, words_in, words_of, room_at, shown, spare, HasRoom};
+ghost use Rattle.pm_reach.specs.declared.held.Held.{Held};
+ghost use Rattle.pm_reach.specs.declared.page.Row.{Row};
+
+use crate::held::{Held, read, shared};
+use crate::words;
+use pm_model::Memory;
+use std::alloc::Global;
+use std::sync::Arc;
+
+/// A row of bits.
+#[derive(Drop)]
+pub(crate) struct Row {
+    words: Vec<u64>,
+}
+
+/// The rows of 64 numbers.
+#[derive(Drop)]
+pub(crate) struct Page {
+    pub(crate) rows: Vec<Option<Held<Row>>>,
+}
+
+/// The words of the row at a place, where it has one.
+#[tactic(auto, using(crate::proofs::Tables::option_at_map))]
+pub(crate) fn find_row(rows: &[Option<Held<Row>>], j: usize) -> Option<&[u64]>
+    ensures { option_copied result ≡ option_at (shown rows.now) j }
+{
+    match rows.get(j) {
+        Some(Some(row)) => Some(read(row).words.as_slice()),
+        _ => None,
+    }
+}
+
+/// Makes the page at least so long.
+fn grow(rows: &mut Vec<Option<Held<Row>>>, n: usize) -> Result<(), Memory>
+    ensures ok { OnOk result (n ≤ vec_len rows.new) }
+    ensures same { (i : ℕ) → option_at rows.new.items i ≡ option_at rows.old.items i }
+    ensures err { OnErr result (rows.new.items ≡ rows.old.items) }
+{
+    let more = n.saturating_sub(rows.len());
+    rows.reserve(more)?;
+    for _ in 0..more {
+        rows.push_reserved(None);
+    }
+    Ok(())
+}
+
+/// Takes a row out, to be put back.
+fn take_row(rows: &mut Vec<Option<Held<Row>>>, j: usize) -> Held<Row>
+    requires { IsSome (option_at rows.old.items j) }
+    ensures row { option_at rows.old.items j ≡ Some result }
+    ensures rows { rows.new.items ≡ slice_set rows.old.items j None }
+{
+    rows[j].take().unwrap()
+}
+
+/// Puts a row at a place.
+fn put_row(rows: &mut Vec<Option<Held<Row>>>, j: usize, row: Held<Row>)
+    requires { j < vec_len rows.old }
+    ensures { rows.new.items ≡ slice_set rows.old.items j (Some row) }
+{
+    rows[j] = Some(row);
+}
+
+/// Makes room for so many words.
+fn reserve(words: &mut Vec<u64>, n: usize) -> Result<(), Memory>
+    ensures words { words.new.items ≡ words.old.items }
+    ensures room { OnOk result (n ≤ vec_capacity words.new) }
+    ensures grown { vec_capacity words.old ≤ vec_capacity words.new }
+{
+    let more = n.saturating_sub(words.len());
+    words.reserve(more)?;
+    Ok(())
+}
+
+fn copy_row(alloc: Global, row: &Row) -> Result<Row, Memory>
+    ensures { IfOk result (λ same. words_in same ≡ words_in row.now) }
+{
+    let words = Vec::from_slice(alloc, row.words.as_slice())?;
+    Ok(Row { words })
+}
+
+/// A row that no other table has, with the same words.
+fn own_row(alloc: Global, row: Held<Row>) -> Result<Row, Held<Row>>
+    ensures ok { IfOk result (λ same. words_in same ≡ words_of row) }
+    ensures own { (r : Row) → row ≡ Held.Own r → IfOk result (λ same. same ≡ r) }
+    ensures err { IfErr result (λ same. same ≡ row) }
+{
+    match row {
+        Held::Own(row) => Ok(row),
+        Held::Shared(shared) => unshared_row(alloc, shared),
+    }
+}
+
+fn unshared_row(alloc: Global, shared: Arc<Row>) -> Result<Row, Held<Row>>
+    ensures ok { IfOk result (λ same. words_in same ≡ words_of (Held.Shared shared)) }
+    ensures err { IfErr result (λ same. same ≡ Held.Shared shared) }
+{
+    match Arc::try_unwrap(shared) {
+        Ok(row) => Ok(row),
+        Err(shared) => match copy_row(alloc, &shared) {
+            Ok(row) => Ok(row),
+            Err(_) => Err(Held::Shared(shared)),
+        },
+    }
+}
+
+/// Makes the row at a place the page's own, with room for so many words.
+pub(crate) fn ready_row(rows: &mut Vec<Option<Held<Row>>>, j: usize, n: usize) -> Result<(), Memory>
+    requires { IsSome (option_at rows.old.items j) }
+    ensures rows { shown rows.new.items ≡ shown rows.old.items }
+    ensures room { OnOk result (HasRoom (option_at (spare rows.new.items) j) n) }
+    ensures stays { (i m : ℕ) → HasRoom (option_at (spare rows.old.items) i) m → HasRoom (option_at (spare rows.new.items) i) m }
+{
+    let alloc = *rows.allocator();
+    let held = take_row(rows, j);
+    match own_row(alloc, held) {
+        Ok(mut row) => {
+            let result = reserve(&mut row.words, n);
+            put_row(rows, j, Held::Own(row));
+            result
+        }
+        Err(same) => {
+            put_row(rows, j, same);
+            Err(Memory)
+        }
+    }
+}
+
+/// Puts what another row has into the row at a place.
+pub(crate) fn join_row(rows: &mut Vec<Option<Held<Row>>>, j: usize, other: &[u64])
+    requires { HasRoom (option_at (spare rows.old.items) j) (length other.now) }
+    ensures row { (q : ℕ) → row_has (option_at (shown rows.new.items) j) q ≡ (row_has (option_at (shown rows.old.items) j) q || in_row other.now q) }
+    ensures live { is_some (option_at rows.new.items j) ≡ true }
+    ensures others { (i : ℕ) → i ≢ j → option_at rows.new.items i ≡ option_at rows.old.items i }
+{
+    let mut row = take_own(rows, j);
+    words::join(&mut row.words, other);
+    put_row(rows, j, Held::Own(row));
+}
+
+/// Lets the row at a place have these numbers, which it has already, and no others.
+pub(crate) fn rewrite_row(rows: &mut Vec<Option<Held<Row>>>, j: usize, numbers: &[u32])
+    requires ready { HasRoom (option_at (spare rows.old.items) j) 0 }
+    requires less { (q : ℕ) → list_any (λ n. n == q) numbers.now ≡ true → row_has (option_at (shown rows.old.items) j) q ≡ true }
+    ensures row { (q : ℕ) → row_has (option_at (shown rows.new.items) j) q ≡ list_any (λ n. n == q) numbers.now }
+    ensures live { is_some (option_at rows.new.items j) ≡ true }
+    ensures others { (i : ℕ) → i ≢ j → option_at rows.new.items i ≡ option_at rows.old.items i }
+{
+    let mut row = take_own(rows, j);
+    words::rewrite(&mut row.words, numbers);
+    put_row(rows, j, Held::Own(row));
+}
+
+/// Takes a row out that can be written.
+#[tactic(auto, using(crate::proofs::Tables::own_at))]
+fn take_own(rows: &mut Vec<Option<Held<Row>>>, j: usize) -> Row
+    requires { HasRoom (option_at (spare rows.old.items) j) 0 }
+    ensures row { option_at rows.old.items j ≡ Some (Held.Own result) }
+    ensures rows { rows.new.items ≡ slice_set rows.old.items j None }
+{
+    match take_row(rows, j) {
+        Held::Own(row) => row,
+        Held::Shared(_) => unreachable!(),
+    }
+}
+
+/// Gives a place a row.
+pub(crate) fn place_row(
+    rows: &mut Vec<Option<Held<Row>>>,
+    j: usize,
+    words: Vec<u64>,
+) -> Result<(), Memory>
+    requires { j < 64 }
+    ensures row { OnOk result (option_at (shown rows.new.items) j ≡ Some words.items) }
+    ensures others { (i : ℕ) → i ≢ j → option_at rows.new.items i ≡ option_at rows.old.items i }
+    ensures err { OnErr result (rows.new.items ≡ rows.old.items) }
+{
+    grow(rows, j + 1)?;
+    put_row(rows, j, Held::Own(Row { words }));
+    Ok(())
+}
+
+/// Takes the row at a place away.
+pub(crate) fn clear_row(rows: &mut Vec<Option<Held<Row>>>, j: usize)
+    requires { IsSome (option_at rows.old.items j) }
+    ensures none { option_at (shown rows.new.items) j ≡ None }
+    ensures others { (i : ℕ) → i ≢ j → option_at rows.new.items i ≡ option_at rows.old.items i }
+{
+    let _row = take_row(rows, j);
+}
+
+fn copy_held(alloc: Global, row: &Held<Row>) -> Result<Held<Row>, Memory>
+    ensures { IfOk result (λ same. words_of same ≡ words_of row.now) }
+{
+    match row {
+        Held::Own(row) => Ok(Held::Own(copy_row(alloc, row)?)),
+        Held::Shared(shared) => Ok(Held::Shared(Arc::try_clone(shared)?)),
+    }
+}
+
+fn copy_place(alloc: Global, place: &Option<Held<Row>>) -> Result<Option<Held<Row>>, Memory>
+    ensures { IfOk result (λ same. option_map words_of same ≡ option_map words_of place.now) }
+{
+    match place {
+        Some(row) => Ok(Some(copy_held(alloc, row)?)),
+        None => Ok(None),
+    }
+}
+
+/// The same rows once more. Those that are shared stay so.
+pub(crate) fn copy_rows(
+    alloc: Global,
+    rows: &[Option<Held<Row>>],
+) -> Result<Vec<Option<Held<Row>>>, Memory>
+    ensures { IfOk result (λ same. shown same.items ≡ shown rows.now) }
+{
+    let mut same = Vec::with_capacity(alloc, rows.len())?;
+    for place in rows {
+        same.push(copy_place(alloc, place)?)?;
+    }
+    Ok(same)
+}
+
+/// Lets the row at a place be shared.
+fn share_row(rows: &mut Vec<Option<Held<Row>>>, j: usize) -> Result<(), Memory>
+    requires { IsSome (option_at rows.old.items j) }
+    ensures long { vec_len rows.new ≡ vec_len rows.old }
+    ensures rows { shown rows.new.items ≡ shown rows.old.items }
+{
+    let alloc = *rows.allocator();
+    let held = take_row(rows, j);
+    match shared(alloc, held) {
+        Ok(same) => {
+            put_row(rows, j, same);
+            Ok(())
+        }
+        Err(same) => {
+            put_row(rows, j, same);
+            Err(Memory)
+        }
+    }
+}
+
+/// Lets each row be shared.
+pub(crate) fn share_rows(rows: &mut Vec<Option<Held<Row>>>) -> Result<(), Memory>
+    ensures { shown rows.new.items ≡ shown rows.old.items }
+{
+    for j in 0..rows.len() {
+        if rows[j].is_some() {
+            share_row(rows, j)?;
+        }
+    }
+    Ok(())
+}

@@ -1,0 +1,450 @@
+//! The table of rows, in pages of 64 numbers.
+
+ghost use Rattle.std.specs.Prelude.{◌≡◌, ◌≢◌, ℕ, ◌<◌, ◌≤◌, ◌+◌, ◌==◌, ◌||◌, ◌/◌, [], true, false, None, Some, length, map, slice_get, slice_set, vec_len, is_some, IfOk, IfErr, OnOk, OnErr};
+ghost use Rattle.std.specs.List.{list_any};
+ghost use Rattle.std.specs.Option.{option_copied};
+ghost use Rattle.pm_reach.specs.Words.{in_row};
+ghost use Rattle.pm_reach.specs.Rows.{place_at, has, below, most};
+ghost use Rattle.pm_reach.specs.Table.{shown, page_rows, tabled, is_own, IsPushed, IsReady, StaysReady, Writes};
+ghost use Rattle.pm_reach.specs.declared.held.Held.{Held};
+ghost use Rattle.pm_reach.specs.declared.page.Page.{Page};
+
+use crate::held::{Held, read, shared};
+use crate::page::{
+    Page, clear_row, copy_rows, find_row, join_row, place_row, ready_row, rewrite_row, share_rows,
+};
+use crate::words;
+use pm_model::Memory;
+use std::alloc::Global;
+use std::marker::Model;
+use std::mem::replace;
+use std::sync::Arc;
+
+/// The rows, by number. Each page, and each row, is the table's own, or shared with copies of it.
+#[derive(Drop)]
+pub(crate) struct RowTable {
+    pages: Vec<Held<Page>>,
+}
+
+impl Model for RowTable {
+    ghost use Rattle.pm_reach.specs.Table.{Table};
+
+    ghost Value = { Table };
+
+    ghost use Rattle.pm_reach.specs.Table.{table_of};
+    ghost use Rattle.std.specs.Prelude.{length, ◌≤◌};
+
+    ghost view = { table_of };
+
+    ghost invariant = { λ t. length t.pages.items ≤ 256 };
+}
+
+/// The words of the row of a number, where it has one.
+#[tactic(auto, using(crate::proofs::Pages::place_in))]
+fn find(pages: &[Held<Page>], x: u32) -> Option<&[u64]>
+    ensures { option_copied result ≡ place_at (map page_rows pages.now) x }
+{
+    match pages.get(x as usize / 64) {
+        Some(page) => find_row(read(page).rows.as_slice(), x as usize % 64),
+        None => None,
+    }
+}
+
+/// Takes a page out, to be put back.
+#[tactic(auto, using(crate::proofs::Tables::set_set))]
+fn take_held(pages: &mut Vec<Held<Page>>, k: usize) -> Held<Page>
+    requires { k < vec_len pages.old }
+    ensures page { slice_get pages.old.items k ≡ Some result }
+    ensures pages { (v : Held Page) → slice_set pages.new.items k v ≡ slice_set pages.old.items k v }
+    ensures long { vec_len pages.new ≡ vec_len pages.old }
+{
+    let alloc = *pages.allocator();
+    replace(
+        &mut pages[k],
+        Held::Own(Page {
+            rows: Vec::new(alloc),
+        }),
+    )
+}
+
+/// Puts a page at a place.
+fn put_page(pages: &mut Vec<Held<Page>>, k: usize, page: Held<Page>)
+    requires { k < vec_len pages.old }
+    ensures { pages.new.items ≡ slice_set pages.old.items k page }
+{
+    pages[k] = page;
+}
+
+fn copy_of(alloc: Global, page: &Page) -> Result<Page, Memory>
+    ensures { IfOk result (λ same. shown same.rows.items ≡ shown page.now.rows.items) }
+{
+    let rows = copy_rows(alloc, page.rows.as_slice())?;
+    Ok(Page { rows })
+}
+
+/// A page that no other table has, with the same rows.
+fn own(alloc: Global, page: Held<Page>) -> Result<Page, Held<Page>>
+    ensures ok { IfOk result (λ same. shown same.rows.items ≡ page_rows page) }
+    ensures own { (p : Page) → page ≡ Held.Own p → IfOk result (λ same. same ≡ p) }
+    ensures err { IfErr result (λ same. same ≡ page) }
+{
+    match page {
+        Held::Own(page) => Ok(page),
+        Held::Shared(shared) => unshared(alloc, shared),
+    }
+}
+
+fn unshared(alloc: Global, shared: Arc<Page>) -> Result<Page, Held<Page>>
+    ensures ok { IfOk result (λ same. shown same.rows.items ≡ page_rows (Held.Shared shared)) }
+    ensures err { IfErr result (λ same. same ≡ Held.Shared shared) }
+{
+    match Arc::try_unwrap(shared) {
+        Ok(page) => Ok(page),
+        Err(shared) => match copy_of(alloc, &shared) {
+            Ok(page) => Ok(page),
+            Err(_) => Err(Held::Shared(shared)),
+        },
+    }
+}
+
+/// Makes a page the table's own.
+fn own_page(pages: &mut Vec<Held<Page>>, k: usize) -> Result<(), Memory>
+    requires { k < vec_len pages.old }
+    ensures long { vec_len pages.new ≡ vec_len pages.old }
+    ensures rows { map page_rows pages.new.items ≡ map page_rows pages.old.items }
+    ensures own { OnOk result (is_own (slice_get pages.new.items k) ≡ true) }
+    ensures stays { StaysReady (tabled pages.old.items) (tabled pages.new.items) }
+{
+    let alloc = *pages.allocator();
+    let held = take_held(pages, k);
+    match own(alloc, held) {
+        Ok(page) => {
+            put_page(pages, k, Held::Own(page));
+            Ok(())
+        }
+        Err(same) => {
+            put_page(pages, k, same);
+            Err(Memory)
+        }
+    }
+}
+
+/// Takes a page out that is the table's own, to be put back.
+#[tactic(auto, using(crate::proofs::Pages::is_own_some))]
+fn take_page(pages: &mut Vec<Held<Page>>, k: usize) -> Page
+    requires { is_own (slice_get pages.old.items k) ≡ true }
+    ensures page { slice_get pages.old.items k ≡ Some (Held.Own result) }
+    ensures pages { (v : Held Page) → slice_set pages.new.items k v ≡ slice_set pages.old.items k v }
+    ensures long { vec_len pages.new ≡ vec_len pages.old }
+{
+    match take_held(pages, k) {
+        Held::Own(page) => page,
+        Held::Shared(_) => unreachable!(),
+    }
+}
+
+/// Makes the row of x the table's own, with room for so many words.
+fn ready_at(pages: &mut Vec<Held<Page>>, x: u32, n: usize) -> Result<(), Memory>
+    requires { has (map page_rows pages.old.items) x ≡ true }
+    ensures long { vec_len pages.new ≡ vec_len pages.old }
+    ensures rows { map page_rows pages.new.items ≡ map page_rows pages.old.items }
+    ensures room { OnOk result (IsReady (tabled pages.new.items) x n) }
+    ensures stays { StaysReady (tabled pages.old.items) (tabled pages.new.items) }
+{
+    let k = x as usize / 64;
+    own_page(pages, k)?;
+    let mut page = take_page(pages, k);
+    let result = ready_row(&mut page.rows, x as usize % 64, n);
+    put_page(pages, k, Held::Own(page));
+    result
+}
+
+/// Puts what another row has into the row of x.
+fn join_at(pages: &mut Vec<Held<Page>>, x: u32, other: &[u64])
+    requires { IsReady (tabled pages.old.items) x (length other.now) }
+    ensures long { vec_len pages.new ≡ vec_len pages.old }
+    ensures row { (q : ℕ) → below (map page_rows pages.new.items) x q ≡ (below (map page_rows pages.old.items) x q || in_row other.now q) }
+    ensures writes { Writes x (tabled pages.old.items) (tabled pages.new.items) }
+{
+    let k = x as usize / 64;
+    let mut page = take_page(pages, k);
+    join_row(&mut page.rows, x as usize % 64, other);
+    put_page(pages, k, Held::Own(page));
+}
+
+/// Lets the row of x have these numbers, which it has already, and no others.
+fn rewrite_at(pages: &mut Vec<Held<Page>>, x: u32, numbers: &[u32])
+    requires ready { IsReady (tabled pages.old.items) x 0 }
+    requires less { (q : ℕ) → list_any (λ n. n == q) numbers.now ≡ true → below (map page_rows pages.old.items) x q ≡ true }
+    ensures long { vec_len pages.new ≡ vec_len pages.old }
+    ensures row { (q : ℕ) → below (map page_rows pages.new.items) x q ≡ list_any (λ n. n == q) numbers.now }
+    ensures writes { Writes x (tabled pages.old.items) (tabled pages.new.items) }
+{
+    let k = x as usize / 64;
+    let mut page = take_page(pages, k);
+    rewrite_row(&mut page.rows, x as usize % 64, numbers);
+    put_page(pages, k, Held::Own(page));
+}
+
+/// Gives x a row, in a page that is there.
+fn put_within(pages: &mut Vec<Held<Page>>, x: u32, words: Vec<u64>) -> Result<(), Memory>
+    requires { x / 64 < vec_len pages.old }
+    ensures long { vec_len pages.new ≡ vec_len pages.old }
+    ensures row { OnOk result (place_at (map page_rows pages.new.items) x ≡ Some words.items) }
+    ensures others { (y : ℕ) → y ≢ x → place_at (map page_rows pages.new.items) y ≡ place_at (map page_rows pages.old.items) y }
+    ensures err { OnErr result (map page_rows pages.new.items ≡ map page_rows pages.old.items) }
+{
+    let k = x as usize / 64;
+    own_page(pages, k)?;
+    let mut page = take_page(pages, k);
+    let result = place_row(&mut page.rows, x as usize % 64, words);
+    put_page(pages, k, Held::Own(page));
+    result
+}
+
+/// Gives x a row, in a page behind the others.
+fn put_beyond(pages: &mut Vec<Held<Page>>, x: u32, words: Vec<u64>) -> Result<(), Memory>
+    requires few { x < most }
+    requires behind { vec_len pages.old ≤ x / 64 }
+    ensures long { vec_len pages.new ≤ x / 64 + 1 }
+    ensures row { OnOk result (place_at (map page_rows pages.new.items) x ≡ Some words.items) }
+    ensures others { OnOk result ((y : ℕ) → y ≢ x → place_at (map page_rows pages.new.items) y ≡ place_at (map page_rows pages.old.items) y) }
+    ensures err { OnErr result (pages.new.items ≡ pages.old.items) }
+{
+    let mut rows = Vec::new(*pages.allocator());
+    place_row(&mut rows, x as usize % 64, words)?;
+    push_page(pages, x as usize / 64, Page { rows })
+}
+
+/// Puts a page at a place behind the others.
+#[tactic(auto, using(crate::proofs::Pages::page_empty))]
+fn push_page(pages: &mut Vec<Held<Page>>, k: usize, page: Page) -> Result<(), Memory>
+    requires few { k < most }
+    requires behind { vec_len pages.old ≤ k }
+    ensures ok { OnOk result (IsPushed k page pages.old.items pages.new.items) }
+    ensures err { OnErr result (pages.new.items ≡ pages.old.items) }
+{
+    let alloc = *pages.allocator();
+    let more = k - pages.len();
+    pages.reserve(more + 1)?;
+    for _ in 0..more {
+        pages.push_reserved(Held::Own(Page {
+            rows: Vec::new(alloc),
+        }));
+    }
+    pages.push_reserved(Held::Own(page));
+    Ok(())
+}
+
+/// Gives x a row.
+fn put_at(pages: &mut Vec<Held<Page>>, x: u32, words: Vec<u64>) -> Result<(), Memory>
+    requires few { vec_len pages.old ≤ 256 }
+    requires x { x < most }
+    ensures few { vec_len pages.new ≤ 256 }
+    ensures row { OnOk result (place_at (map page_rows pages.new.items) x ≡ Some words.items) }
+    ensures others { OnOk result ((y : ℕ) → y ≢ x → place_at (map page_rows pages.new.items) y ≡ place_at (map page_rows pages.old.items) y) }
+    ensures err { OnErr result (map page_rows pages.new.items ≡ map page_rows pages.old.items) }
+{
+    if (x as usize / 64) < pages.len() {
+        put_within(pages, x, words)?;
+        return Ok(());
+    }
+    put_beyond(pages, x, words)?;
+    Ok(())
+}
+
+/// Takes the row of x away.
+fn clear_at(pages: &mut Vec<Held<Page>>, x: u32) -> Result<(), Memory>
+    requires { has (map page_rows pages.old.items) x ≡ true }
+    ensures long { vec_len pages.new ≡ vec_len pages.old }
+    ensures gone { OnOk result (place_at (map page_rows pages.new.items) x ≡ None) }
+    ensures others { OnOk result ((y : ℕ) → y ≢ x → place_at (map page_rows pages.new.items) y ≡ place_at (map page_rows pages.old.items) y) }
+    ensures err { OnErr result (map page_rows pages.new.items ≡ map page_rows pages.old.items) }
+{
+    let k = x as usize / 64;
+    own_page(pages, k)?;
+    let mut page = take_page(pages, k);
+    clear_row(&mut page.rows, x as usize % 64);
+    put_page(pages, k, Held::Own(page));
+    Ok(())
+}
+
+fn copy_held(alloc: Global, page: &Held<Page>) -> Result<Held<Page>, Memory>
+    ensures { IfOk result (λ same. page_rows same ≡ page_rows page.now) }
+{
+    match page {
+        Held::Own(page) => Ok(Held::Own(copy_of(alloc, page)?)),
+        Held::Shared(shared) => Ok(Held::Shared(Arc::try_clone(shared)?)),
+    }
+}
+
+fn copy_pages(alloc: Global, pages: &[Held<Page>]) -> Result<Vec<Held<Page>>, Memory>
+    ensures long { IfOk result (λ same. length same.items ≡ length pages.now) }
+    ensures rows { IfOk result (λ same. map page_rows same.items ≡ map page_rows pages.now) }
+{
+    let mut same = Vec::with_capacity(alloc, pages.len())?;
+    for page in pages {
+        same.push(copy_held(alloc, page)?)?;
+    }
+    Ok(same)
+}
+
+/// Lets a page and its rows be shared.
+fn share_page(alloc: Global, page: Held<Page>) -> Result<Held<Page>, Held<Page>>
+    ensures ok { IfOk result (λ same. page_rows same ≡ page_rows page) }
+    ensures err { IfErr result (λ same. page_rows same ≡ page_rows page) }
+{
+    match page {
+        Held::Own(mut page) => match share_rows(&mut page.rows) {
+            Ok(()) => shared(alloc, Held::Own(page)),
+            Err(_) => Err(Held::Own(page)),
+        },
+        Held::Shared(shared) => Ok(Held::Shared(shared)),
+    }
+}
+
+fn share_at(pages: &mut Vec<Held<Page>>, k: usize) -> Result<(), Memory>
+    requires { k < vec_len pages.old }
+    ensures long { vec_len pages.new ≡ vec_len pages.old }
+    ensures rows { map page_rows pages.new.items ≡ map page_rows pages.old.items }
+{
+    let alloc = *pages.allocator();
+    let held = take_held(pages, k);
+    match share_page(alloc, held) {
+        Ok(page) => {
+            put_page(pages, k, page);
+            Ok(())
+        }
+        Err(page) => {
+            put_page(pages, k, page);
+            Err(Memory)
+        }
+    }
+}
+
+fn share_pages(pages: &mut Vec<Held<Page>>) -> Result<(), Memory>
+    ensures long { vec_len pages.new ≡ vec_len pages.old }
+    ensures rows { map page_rows pages.new.items ≡ map page_rows pages.old.items }
+{
+    for k in 0..pages.len() {
+        share_at(pages, k)?;
+    }
+    Ok(())
+}
+
+impl RowTable {
+    /// The table without rows, which takes no memory.
+    pub(crate) fn new(alloc: Global) -> RowTable
+        ensures { result.rows ≡ [] }
+    {
+        RowTable {
+            pages: Vec::new(alloc),
+        }
+    }
+
+    pub(crate) fn alloc(&self) -> Global {
+        *self.pages.allocator()
+    }
+
+    /// No number from this on has a row.
+    #[tactic(auto, using(crate::proofs::Pages::has_within))]
+    pub(crate) fn len(&self) -> usize
+        ensures within { (y : ℕ) → has self.now.rows y ≡ true → y < result }
+        ensures most { result ≤ most }
+    {
+        self.pages.len() * 64
+    }
+
+    /// Whether x has a row.
+    pub(crate) fn has_row(&self, x: u32) -> bool
+        ensures { result ≡ has self.now.rows x }
+    {
+        find(self.pages.as_slice(), x).is_some()
+    }
+
+    /// Whether x has a row, and y is in it.
+    pub(crate) fn has(&self, x: u32, y: u32) -> bool
+        ensures { result ≡ below self.now.rows x y }
+    {
+        match find(self.pages.as_slice(), x) {
+            Some(row) => words::has(row, y),
+            None => false,
+        }
+    }
+
+    /// Makes the row of x the table's own, with room for so many words. It takes all the memory that
+    /// writing so many will need.
+    pub(crate) fn ready(&mut self, x: u32, n: usize) -> Result<(), Memory>
+        requires { has self.old.rows x ≡ true }
+        ensures rows { self.new.rows ≡ self.old.rows }
+        ensures room { OnOk result (IsReady self.new x n) }
+        ensures stays { StaysReady self.old self.new }
+    {
+        ready_at(&mut self.pages, x, n)
+    }
+
+    /// Puts what another row has into the row of x.
+    pub(crate) fn join(&mut self, x: u32, other: &[u64])
+        requires { IsReady self.old x (length other.now) }
+        ensures row { (q : ℕ) → below self.new.rows x q ≡ (below self.old.rows x q || in_row other.now q) }
+        ensures writes { Writes x self.old self.new }
+    {
+        join_at(&mut self.pages, x, other);
+    }
+
+    /// Lets the row of x have these numbers, which it has already, and no others.
+    pub(crate) fn rewrite(&mut self, x: u32, numbers: &[u32])
+        requires ready { IsReady self.old x 0 }
+        requires less { (q : ℕ) → list_any (λ n. n == q) numbers.now ≡ true → below self.old.rows x q ≡ true }
+        ensures row { (q : ℕ) → below self.new.rows x q ≡ list_any (λ n. n == q) numbers.now }
+        ensures writes { Writes x self.old self.new }
+    {
+        rewrite_at(&mut self.pages, x, numbers);
+    }
+
+    /// Gives x a row.
+    pub(crate) fn put(&mut self, x: u32, words: Vec<u64>) -> Result<(), Memory>
+        requires { x < most }
+        ensures row { OnOk result (place_at self.new.rows x ≡ Some words.items) }
+        ensures others { OnOk result ((y : ℕ) → y ≢ x → place_at self.new.rows y ≡ place_at self.old.rows y) }
+        ensures err { OnErr result (self.new.rows ≡ self.old.rows) }
+    {
+        put_at(&mut self.pages, x, words)
+    }
+
+    /// Takes the row of x away.
+    pub(crate) fn clear(&mut self, x: u32) -> Result<(), Memory>
+        requires { has self.old.rows x ≡ true }
+        ensures gone { OnOk result (place_at self.new.rows x ≡ None) }
+        ensures others { OnOk result ((y : ℕ) → y ≢ x → place_at self.new.rows y ≡ place_at self.old.rows y) }
+        ensures err { OnErr result (self.new.rows ≡ self.old.rows) }
+    {
+        clear_at(&mut self.pages, x)
+    }
+
+    /// The words of the row of x once more.
+    pub(crate) fn copy_row(&self, x: u32) -> Result<Vec<u64>, Memory>
+        ensures { IfOk result (λ words. (q : ℕ) → in_row words.items q ≡ below self.now.rows x q) }
+    {
+        let alloc = self.alloc();
+        match find(self.pages.as_slice(), x) {
+            Some(row) => Ok(Vec::from_slice(alloc, row)?),
+            None => Ok(Vec::new(alloc)),
+        }
+    }
+
+    /// Lets all pages and rows be shared, so that a copy is one of pointers.
+    pub(crate) fn share(&mut self) -> Result<(), Memory>
+        ensures { self.new.rows ≡ self.old.rows }
+    {
+        share_pages(&mut self.pages)
+    }
+
+    /// The same rows once more.
+    pub(crate) fn copy(&self) -> Result<RowTable, Memory>
+        ensures { IfOk result (λ same. same.rows ≡ self.now.rows) }
+    {
+        let pages = copy_pages(self.alloc(), self.pages.as_slice())?;
+        Ok(RowTable { pages })
+    }
+}

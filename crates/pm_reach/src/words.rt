@@ -1,0 +1,121 @@
+//! A row's words. Number y is in the row where bit y % 64 of word y / 64 is set; a row is only as long
+//! as it has to be.
+
+ghost use Rattle.std.specs.Prelude.{◌≡◌, ℕ, ◌<◌, ◌≤◌, ◌+◌, ◌*◌, ◌==◌, ◌||◌, true, false, length, slice_index, vec_len, vec_capacity, IfOk};
+ghost use Rattle.std.specs.List.{list_any};
+ghost use Rattle.pm_reach.specs.Words.{in_row};
+
+use pm_model::Memory;
+use std::alloc::Global;
+
+/// Whether the row has y.
+#[tactic(auto, using(crate::proofs::Bits::past_row))]
+pub(crate) fn has(words: &[u64], y: u32) -> bool
+    ensures { result ≡ in_row words.now y }
+{
+    let i = y as usize / 64;
+    i < words.len() && (words[i] >> (y % 64)) & 1 == 1
+}
+
+/// Puts what the other row has into this one, which is at least as long.
+fn unite(into: &mut [u64], from: &[u64])
+    requires { length from.now ≤ length into.old }
+    ensures { (y : ℕ) → in_row into.new y ≡ (in_row into.old y || in_row from.now y) }
+{
+    for i in 0..from.len() {
+        into[i] |= from[i];
+    }
+}
+
+/// Puts y into the row.
+fn set_bit(words: &mut [u64], y: u32)
+    requires { y < 64 * length words.old }
+    ensures set { (q : ℕ) → in_row words.new q ≡ (q == y || in_row words.old q) }
+    ensures long { length words.new ≡ length words.old }
+{
+    words[y as usize / 64] |= 1 << (y % 64);
+}
+
+/// Puts these numbers into an empty row.
+fn put(words: &mut [u64], numbers: &[u32])
+    requires fits { (q : ℕ) → list_any (λ n. n == q) numbers.now ≡ true → q < 64 * length words.old }
+    requires none { (q : ℕ) → in_row words.old q ≡ false }
+    ensures { (q : ℕ) → in_row words.new q ≡ list_any (λ n. n == q) numbers.now }
+{
+    for n in numbers {
+        set_bit(words, *n);
+    }
+}
+
+/// Empties the row, and leaves its words.
+#[tactic(auto, using(crate::proofs::Bits::bit_none))]
+fn empty(words: &mut [u64])
+    ensures long { length words.new ≡ length words.old }
+    ensures none { (q : ℕ) → in_row words.new q ≡ false }
+{
+    words.fill(0);
+}
+
+/// How many words the row needs.
+fn used(words: &[u64]) -> usize
+    ensures within { result ≤ length words.now }
+    ensures rest { (k : ℕ) → result ≤ k → slice_index words.now k ≡ 0 }
+{
+    let mut n = words.len();
+    while n > 0 && words[n - 1] == 0 {
+        n -= 1;
+    }
+    n
+}
+
+/// Lets go the words that the row doesn't need.
+#[tactic(auto, using(crate::proofs::Bits::zero_less))]
+fn trim(words: &mut Vec<u64>)
+    ensures { (q : ℕ) → in_row words.new.items q ≡ in_row words.old.items q }
+{
+    let n = used(words.as_slice());
+    words.truncate(n);
+}
+
+/// Makes the row at least so long, in the room that it has.
+#[tactic(auto, using(crate::proofs::Bits::zero_more))]
+fn lengthen(words: &mut Vec<u64>, n: usize)
+    requires { n ≤ vec_capacity words.old }
+    ensures long { n ≤ vec_len words.new }
+    ensures same { (q : ℕ) → in_row words.new.items q ≡ in_row words.old.items q }
+{
+    while words.len() < n {
+        words.push_reserved(0);
+    }
+}
+
+/// Puts what the other row has into this one, in the room that it has.
+#[tactic(auto, using(crate::proofs::Bits::within_row))]
+pub(crate) fn join(words: &mut Vec<u64>, other: &[u64])
+    requires { length other.now ≤ vec_capacity words.old }
+    ensures { (q : ℕ) → in_row words.new.items q ≡ (in_row words.old.items q || in_row other.now q) }
+{
+    lengthen(words, other.len());
+    unite(words.as_mut_slice(), other);
+}
+
+/// Makes the row have these numbers, which it has already, and no others.
+pub(crate) fn rewrite(words: &mut Vec<u64>, numbers: &[u32])
+    requires { (q : ℕ) → list_any (λ n. n == q) numbers.now ≡ true → in_row words.old.items q ≡ true }
+    ensures { (q : ℕ) → in_row words.new.items q ≡ list_any (λ n. n == q) numbers.now }
+{
+    empty(words.as_mut_slice());
+    put(words.as_mut_slice(), numbers);
+    trim(words);
+}
+
+/// The row of y alone.
+pub(crate) fn row_of(alloc: Global, y: u32) -> Result<Vec<u64>, Memory>
+    ensures { IfOk result (λ words. (q : ℕ) → in_row words.items q ≡ (q == y)) }
+{
+    let size = y as usize / 64 + 1;
+    let mut words = Vec::with_capacity(alloc, size)?;
+    lengthen(&mut words, size);
+    set_bit(words.as_mut_slice(), y);
+    Ok(words)
+}
