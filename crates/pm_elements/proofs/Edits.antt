@@ -1,6 +1,6 @@
 -- What a change of one slot leaves.
-use Rattle.std.proofs.Common.{◌≡◌, ◌≢◌, ℕ, zero, suc, ◌+◌, ◌<◌, List, [], ◌∷◌, length, length-set, Option, Some, None, is_some, option_map, set, refl, ap, ◌∙◌, arith, inl, inr}
-use Rattle.std.proofs.lemmas.Bool.{cases_eq}
+use Rattle.std.proofs.Common.{◌≡◌, ◌≢◌, ℕ, zero, suc, ◌+◌, ◌-◌, ◌<◌, true, cond, eqb, List, [], ◌∷◌, length, length-set, Option, Some, None, is_some, option_map, set, refl, ap, ◌∙◌, arith, inl, inr}
+use Rattle.std.proofs.lemmas.Bool.{cases_eq, eq-eqb, ne_eqb, false≢true}
 use Rattle.pm_model.specs.declared.elements.Element.{Element}
 use Rattle.pm_elements.specs.declared.slots.Slot.{Slot}
 use Rattle.pm_elements.specs.Slots.{shown_from, slot_at, element_of, edited, with_parent, without_parent, with_child, without_child, parents_of, children_of}
@@ -66,3 +66,23 @@ parents_without_child (Some s) = refl
 
 pub length-edited : (f : Slot → Slot) (n : ℕ) (slots : List (Option Slot)) → length (edited f n slots) ≡ length slots
 length-edited f n slots = length-set slots n (option_map f (slot_at slots n))
+
+-- ---- one child more, and one less
+
+pub child_more : (y z : ℕ) (slots : List (Option Slot)) → is_some (slot_at slots y) ≡ true → children_of (slot_at (edited with_child y slots) z) ≡ cond (eqb y z) 1 0 + children_of (slot_at slots z)
+child_more y z slots h = elim (cases_eq z y) [
+  | inl same ↦ rw (same, eq-eqb y y refl) (ap children_of (slot_at-edited with_child y slots) ∙ taken (slot_at slots y) h)
+  | inr other ↦ let apart : y ≢ z = omega arith in rw (ne_eqb y z apart) (ap children_of (slot_at-edited_other with_child y z slots other) ∙ omega arith)
+] where
+  taken : (o : Option Slot) → is_some o ≡ true → children_of (option_map with_child o) ≡ 1 + children_of o
+  taken None t = absurd (false≢true t)
+  taken (Some s) t = omega arith
+
+pub child_less : (y z : ℕ) (slots : List (Option Slot)) → children_of (slot_at (edited without_child y slots) z) ≡ children_of (slot_at slots z) - cond (eqb y z) 1 0
+child_less y z slots = elim (cases_eq z y) [
+  | inl same ↦ rw (same, eq-eqb y y refl) (ap children_of (slot_at-edited without_child y slots) ∙ less (slot_at slots y))
+  | inr other ↦ let apart : y ≢ z = omega arith in rw (ne_eqb y z apart) (ap children_of (slot_at-edited_other without_child y z slots other) ∙ omega arith)
+] where
+  less : (o : Option Slot) → children_of (option_map without_child o) ≡ children_of o - 1
+  less None = omega arith
+  less (Some s) = refl

@@ -8,7 +8,6 @@ use Rattle.pm_model.specs.State.{element_at, is_named, is_numbered, number_named
 use Rattle.pm_model.specs.Formed.{Each}
 use Rattle.pm_model.specs.declared.elements.Element.{Element}
 use Rattle.pm_model.specs.Effect.{placed}
-use Rattle.pm_laws.proofs.Items.{each-to}
 use Rattle.pm_elements.specs.Kept.{Named, Renames}
 use Rattle.pm_elements.proofs.Lists.{is_some-map, Each-placed, Each-filter, element_at-placed, element_at-filtered}
 
@@ -63,8 +62,7 @@ any_named name es = any-find (is_named name) es ∙ sym (is_some-map (λ (e : El
 pub Named-placed : (es : List Element) (names names' : List (List ℕ × ℕ)) (x : Element) → Named es names → element_at es x.number ≡ None → lookup (bytes_eq x.name) names ≡ None
     → Renames x.name (Some x.number) names names' → Named (placed x es) names'
 Named-placed es names names' x h apart free changed = record {
-  known = Each-placed (λ e. lookup (bytes_eq e.name) names' ≡ Some e.number) x es
-      (each-to (λ e. lookup (bytes_eq e.name) names ≡ Some e.number) (λ e. lookup (bytes_eq e.name) names' ≡ Some e.number) old es h.known)
+  known = Each-placed (λ e. lookup (bytes_eq e.name) names ≡ Some e.number) (λ e. lookup (bytes_eq e.name) names' ≡ Some e.number) old x es h.known
       (changed x.name ∙ rw (bytes_same x.name x.name refl) refl);
   found = λ q n is. there q n (bytes_eq x.name q) refl (sym (changed q) ∙ is);
 } where

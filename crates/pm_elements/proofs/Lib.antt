@@ -1,6 +1,9 @@
+pub mod Assigned
 pub mod Created
 pub mod Edits
+pub mod Fits
 pub mod Found
+pub mod Held
 pub mod Linking
 pub mod Lists
 pub mod Nexts

@@ -12,12 +12,16 @@ is_some-map f (Some x) = refl
 
 -- ---- each item
 
-pub Each-placed : (P : Element → Type 0) (x : Element) (es : List Element) → Each P es → P x → Each P (placed x es)
-Each-placed P x [] h p = (p, tt)
-Each-placed P x (e ∷ es) h p = go (nat_lt x.number e.number) (Each-placed P x es h.1 p) where
-  go : (b : Bool) → Each P (placed x es) → Each P (cond b (x ∷ e ∷ es) (e ∷ placed x es))
-  go true rest = (p, h)
-  go false rest = (h.0, rest)
+pub Each-placed : (P Q : Element → Type 0) → ((e : Element) → P e → Q e) → (x : Element) (es : List Element) → Each P es → Q x → Each Q (placed x es)
+Each-placed P Q f x [] h q = (q, tt)
+Each-placed P Q f x (e ∷ es) h q = go (nat_lt x.number e.number) (Each-placed P Q f x es h.1 q) where
+  all : (ds : List Element) → Each P ds → Each Q ds
+  all [] k = tt
+  all (d ∷ ds) k = (f d k.0, all ds k.1)
+
+  go : (b : Bool) → Each Q (placed x es) → Each Q (cond b (x ∷ e ∷ es) (e ∷ placed x es))
+  go true rest = (q, (f e h.0, all es h.1))
+  go false rest = (f e h.0, rest)
 
 pub Each-filter : {X : Type 0} (P Q : X → Type 0) (test : X → Bool) → ((x : X) → test x ≡ true → P x → Q x) → (xs : List X) → Each P xs → Each Q (filter test xs)
 Each-filter P Q test f [] h = tt

@@ -121,3 +121,12 @@ shown-placed_from n m (Some t ∷ slots) s e =
 -- the slot shows the new element at its place by number
 pub shown-placed : (slots : List (Option Slot)) (s : Slot) → shown (with_slot (first_free slots) s slots) ≡ placed (element_of (first_free slots) s) (shown slots)
 shown-placed slots s = shown-placed_from 0 (first_free slots) slots s (omega arith)
+
+one_more_from : (n : ℕ) (slots : List (Option Slot)) (s : Slot) → length (shown_from n (with_slot (first_free slots) s slots)) ≡ length (shown_from n slots) + 1
+one_more_from n [] s = omega arith
+one_more_from n (None ∷ slots) s = omega arith
+one_more_from n (Some t ∷ slots) s = omega (arith, one_more_from (n + 1) slots s)
+
+-- one element more is live
+pub one_more : (slots : List (Option Slot)) (s : Slot) → length (shown (with_slot (first_free slots) s slots)) ≡ length (shown slots) + 1
+one_more slots s = one_more_from 0 slots s

@@ -5,5 +5,5 @@ use Rattle.pm_model.specs.declared.elements.Element.{Element}
 pub record Listed : Type 0 where
   -- the live elements, by rising number
   pub elements : List Element
-  -- the assignments, in order of creation
+  -- the assignments, by rising element assigned, those of one in order of creation
   pub assigned : List (ℕ × ℕ)

@@ -1,5 +1,5 @@
 -- A slot for each number: free, or with an element, what it is assigned to, and how many are assigned to it.
-use Rattle.std.specs.Prelude.{ℕ, not, ◌+◌, ◌-◌, ◌==◌, List, [], ◌∷◌, ◌++◌, filter, Option, Some, None, option_map, option_to_list, unwrap_or, slice_get, slice_set}
+use Rattle.std.specs.Prelude.{ℕ, not, ◌+◌, ◌-◌, ◌==◌, List, [], ◌∷◌, ◌++◌, map, filter, Option, Some, None, option_map, option_to_list, unwrap_or, slice_get, slice_set}
 use Rattle.std.proofs.Common.{zero, suc}
 use Rattle.pm_model.specs.State.{element}
 use Rattle.pm_model.specs.declared.elements.Element.{Element}
@@ -35,6 +35,18 @@ parents_of (Some s) = s.parents
 abbrev pub children_of : Option Slot → ℕ
 children_of None = 0
 children_of (Some s) = s.children
+
+-- the assignments of a number to these
+abbrev pub each_from : ℕ → List ℕ → List (ℕ × ℕ)
+each_from n ys = map (λ y. (n, y)) ys
+
+-- the assignments of the slots, of which the first has number n
+abbrev pub pairs_from : ℕ → List (Option Slot) → List (ℕ × ℕ)
+pairs_from n [] = []
+pairs_from n (o ∷ slots) = each_from n (parents_of o) ++ pairs_from (n + 1) slots
+
+abbrev pub pairs_of : List (Option Slot) → List (ℕ × ℕ)
+pairs_of slots = pairs_from 0 slots
 
 -- ---- writes
 

@@ -1,7 +1,6 @@
-//! Assignments are written in two places: the pairs, and the slots of both ends.
+//! An assignment is written in the slots of both ends.
 
-ghost use Rattle.std.specs.Prelude.{◌≡◌, ◌==◌, ◌<◌, ◌^◌, ◌-◌, ◌++◌, ◌∷◌, [], IsSome, OnOk, OnErr, filter, not};
-ghost use Rattle.pm_model.specs.Effect.{is_pair};
+ghost use Rattle.std.specs.Prelude.{◌≡◌, ◌==◌, ◌<◌, ◌^◌, ◌-◌, IsSome, OnOk, OnErr, filter, not};
 ghost use Rattle.pm_elements.specs.Slots.{slot_at, children_of, edited, with_parent, without_parent, with_child, without_child, linked, unlinked};
 
 use crate::slots::Slot;
@@ -57,40 +56,24 @@ pub(crate) fn drop_child(slots: &mut Vec<Option<Slot>>, y: ElementId)
 }
 
 /// Assigns x to y. On Memory nothing is changed.
-pub(crate) fn link(
-    slots: &mut Vec<Option<Slot>>,
-    pairs: &mut Vec<(ElementId, ElementId)>,
-    x: ElementId,
-    y: ElementId,
-) -> Result<(), Memory>
+pub(crate) fn link(slots: &mut Vec<Option<Slot>>, x: ElementId, y: ElementId) -> Result<(), Memory>
     requires x_live { IsSome (slot_at slots.old.items x) }
     requires y_live { IsSome (slot_at slots.old.items y) }
     requires few { children_of (slot_at slots.old.items y) < 2 ^ 32 - 1 }
-    ensures slots { OnOk result (slots.new.items ≡ linked x y slots.old.items) }
-    ensures pairs { OnOk result (pairs.new.items ≡ pairs.old.items ++ (x, y) ∷ []) }
-    ensures slots_same { OnErr result (slots.new.items ≡ slots.old.items) }
-    ensures pairs_same { OnErr result (pairs.new.items ≡ pairs.old.items) }
+    ensures ok { OnOk result (slots.new.items ≡ linked x y slots.old.items) }
+    ensures err { OnErr result (slots.new.items ≡ slots.old.items) }
 {
-    pairs.reserve(1)?;
     add_parent(slots, x, y)?;
     add_child(slots, y);
-    pairs.push_reserved((x, y));
     Ok(())
 }
 
 /// Takes the assignment of x to y away.
-pub(crate) fn unlink(
-    slots: &mut Vec<Option<Slot>>,
-    pairs: &mut Vec<(ElementId, ElementId)>,
-    x: ElementId,
-    y: ElementId,
-)
+pub(crate) fn unlink(slots: &mut Vec<Option<Slot>>, x: ElementId, y: ElementId)
     requires x_live { IsSome (slot_at slots.old.items x) }
     requires y_live { IsSome (slot_at slots.old.items y) }
-    ensures slots { slots.new.items ≡ unlinked x y slots.old.items }
-    ensures pairs { pairs.new.items ≡ filter (λ pair. not (is_pair x y pair)) pairs.old.items }
+    ensures { slots.new.items ≡ unlinked x y slots.old.items }
 {
     drop_parent(slots, x, y);
     drop_child(slots, y);
-    pairs.retain(|pair| !(pair.0 == x && pair.1 == y));
 }

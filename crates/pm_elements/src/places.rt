@@ -1,7 +1,7 @@
 //! A new element takes the least number that is free.
 
-ghost use Rattle.std.specs.Prelude.{◌≡◌, ◌≤◌, ◌<◌, ◌^◌, ◌-◌, [], ◌∷◌, ◌++◌, Some, IsSome, IfSome, OnOk, OnErr, IfOk, length, vec_len, vec_capacity};
-ghost use Rattle.pm_model.specs.Effect.{max_elements, with_pair};
+ghost use Rattle.std.specs.Prelude.{◌≡◌, ◌≤◌, ◌<◌, ◌^◌, ◌-◌, Some, IsSome, IfSome, OnOk, OnErr, IfOk, length, option_to_list, vec_len, vec_capacity};
+ghost use Rattle.pm_model.specs.Effect.{max_elements};
 ghost use Rattle.indexmap.specs.IndexMap.{spare};
 ghost use Rattle.pm_elements.specs.Kept.{Renames};
 ghost use Rattle.pm_elements.specs.Slots.{shown, slot_at, children_of, first_free, with_slot, new_slot, joined};
@@ -19,6 +19,18 @@ pub(crate) struct NewElement {
     pub kind: Kind,
     pub name: Name,
     pub into: Option<ElementId>,
+}
+
+impl NewElement {
+    /// How many assignments it brings.
+    pub(crate) fn links(&self) -> usize
+        ensures { result ≡ length (option_to_list self.now.into) }
+    {
+        match self.into {
+            Some(_) => 1,
+            None => 0,
+        }
+    }
 }
 
 /// The first slot that is free, or the number of slots.
@@ -78,29 +90,20 @@ fn put(slots: &mut Vec<Option<Slot>>, id: ElementId, slot: Slot)
     }
 }
 
-/// Writes the assignment of a new element to its container, where it has one.
-fn join(
-    slots: &mut Vec<Option<Slot>>,
-    pairs: &mut Vec<(ElementId, ElementId)>,
-    id: ElementId,
-    into: Option<ElementId>,
-)
+/// Counts a new element in the slot of its container, where it has one.
+fn join(slots: &mut Vec<Option<Slot>>, into: Option<ElementId>)
     requires into_live { IfSome into (λ y. IsSome (slot_at slots.old.items y)) }
     requires few { IfSome into (λ y. children_of (slot_at slots.old.items y) < 2 ^ 32 - 1) }
-    requires room { vec_len pairs.old < vec_capacity pairs.old }
-    ensures slots { slots.new.items ≡ joined into slots.old.items }
-    ensures pairs { pairs.new.items ≡ with_pair into id pairs.old.items }
+    ensures { slots.new.items ≡ joined into slots.old.items }
 {
     if let Some(into) = into {
         add_child(slots, into);
-        pairs.push_reserved((id, into));
     }
 }
 
 /// Puts a new element into the slot of the number. On Memory nothing is changed.
 pub(crate) fn place(
     slots: &mut Vec<Option<Slot>>,
-    pairs: &mut Vec<(ElementId, ElementId)>,
     names: &mut IndexMap<Name, ElementId>,
     id: ElementId,
     new: &NewElement,
@@ -109,18 +112,15 @@ pub(crate) fn place(
     requires into_live { IfSome new.now.into (λ y. IsSome (slot_at slots.old.items y)) }
     requires few { IfSome new.now.into (λ y. children_of (slot_at slots.old.items y) < 2 ^ 32 - 1) }
     ensures slots { OnOk result (slots.new.items ≡ joined new.now.into (with_slot id (new_slot new.now.kind new.now.name new.now.into) slots.old.items)) }
-    ensures pairs { OnOk result (pairs.new.items ≡ with_pair new.now.into id pairs.old.items) }
     ensures names { OnOk result (Renames new.now.name (Some id) names.old.entries names.new.entries) }
     ensures slots_same { OnErr result (slots.new.items ≡ slots.old.items) }
-    ensures pairs_same { OnErr result (pairs.new.items ≡ pairs.old.items) }
     ensures names_same { OnErr result (names.new.entries ≡ names.old.entries) }
 {
     let slot = new_slot(*slots.allocator(), new)?;
     slots.reserve(1)?;
-    pairs.reserve(1)?;
     names.reserve(1)?;
     put(slots, id, slot);
-    join(slots, pairs, id, new.into);
+    join(slots, new.into);
     note(names, new.name, id);
     Ok(())
 }

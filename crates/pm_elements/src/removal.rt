@@ -1,7 +1,6 @@
 //! An element goes with its assignments.
 
-ghost use Rattle.std.specs.Prelude.{◌≡◌, ℕ, Some, None, IsSome, IfSome, filter, not, slice_get, slice_set};
-ghost use Rattle.pm_model.specs.Effect.{is_from};
+ghost use Rattle.std.specs.Prelude.{◌≡◌, ℕ, Some, None, IsSome, IfSome, slice_get, slice_set};
 ghost use Rattle.pm_elements.specs.Kept.{Renames};
 ghost use Rattle.pm_elements.specs.Slots.{slot_at, parents_of, released, removed};
 
@@ -33,18 +32,15 @@ fn release(slots: &mut Vec<Option<Slot>>, parents: &[ElementId])
 /// Takes an element and its assignments out. What it is assigned to is live, and isn't itself.
 pub(crate) fn take_out(
     slots: &mut Vec<Option<Slot>>,
-    pairs: &mut Vec<(ElementId, ElementId)>,
     names: &mut IndexMap<Name, ElementId>,
     id: ElementId,
 )
     requires live { IsSome (slot_at slots.old.items id) }
     requires parents_live { (i y : ℕ) → slice_get (parents_of (slot_at slots.old.items id)) i ≡ Some y → IsSome (slot_at (slice_set slots.old.items id None) y) }
     ensures slots { slots.new.items ≡ removed id slots.old.items }
-    ensures pairs { pairs.new.items ≡ filter (λ pair. not (is_from id pair)) pairs.old.items }
     ensures names { IfSome (slot_at slots.old.items id) (λ s. Renames s.name None names.old.entries names.new.entries) }
 {
     let slot = take_slot(slots, id);
     release(slots, slot.parents.as_slice());
     forget(names, slot.name);
-    pairs.retain(|pair| pair.0 != id);
 }

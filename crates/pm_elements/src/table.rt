@@ -1,9 +1,9 @@
-//! The table. Its slots, its pairs and its names are written together, or not at all.
+//! The table. Its slots and its names are written together, or not at all.
 
-ghost use Rattle.std.specs.Prelude.{◌≡◌, ◌≢◌, [], ◌∷◌, ◌++◌, ◌<◌, true, false, None, Some, OnOk, OnErr, IfOk, IfErr, IfSome, is_some, option_map, length, filter, not};
+ghost use Rattle.std.specs.Prelude.{◌≡◌, ◌≢◌, [], ◌<◌, true, false, None, Some, OnOk, OnErr, IfOk, IfErr, IfSome, is_some, option_map, length, filter, not};
 ghost use Rattle.std.specs.List.{list_any};
 ghost use Rattle.pm_model.specs.Containment.{contained};
-ghost use Rattle.pm_model.specs.Effect.{max_elements, max_assignments, may_create, may_assign, both, is_pair, is_from, placed, with_pair, create_checks, assign_checks, deassign_checks, IsCause, has_child};
+ghost use Rattle.pm_model.specs.Effect.{max_elements, max_assignments, may_create, may_assign, both, is_pair, is_from, placed, with_pair, with_assignment, create_checks, assign_checks, deassign_checks, IsCause, has_child};
 ghost use Rattle.pm_model.specs.Name.{is_name};
 ghost use Rattle.pm_model.specs.Resolve.{unused};
 ghost use Rattle.pm_model.specs.Results.{first_of};
@@ -32,9 +32,9 @@ use std::marker::Model;
 #[derive(Drop)]
 pub struct Elements {
     slots: Vec<Option<Slot>>,
-    pairs: Vec<(ElementId, ElementId)>,
     names: IndexMap<Name, ElementId>,
     live: usize,
+    links: usize,
 }
 
 impl Model for Elements {
@@ -68,9 +68,9 @@ impl Elements {
     {
         Elements {
             slots: Vec::new(alloc),
-            pairs: Vec::new(alloc),
             names: IndexMap::new(alloc),
             live: 0,
+            links: 0,
         }
     }
 
@@ -95,9 +95,9 @@ impl Elements {
         let alloc = *self.slots.allocator();
         Ok(Elements {
             slots: copy_slots(alloc, self.slots.as_slice())?,
-            pairs: Vec::from_slice(alloc, self.pairs.as_slice())?,
             names: copy_names(&self.names)?,
             live: self.live,
+            links: self.links,
         })
     }
 
@@ -196,8 +196,9 @@ impl Elements {
         ensures err { OnErr result (self.new ≡ self.old) }
     {
         let id = self.unused();
-        place(&mut self.slots, &mut self.pairs, &mut self.names, id, new)?;
+        place(&mut self.slots, &mut self.names, id, new)?;
         self.live += 1;
+        self.links += new.links();
         Ok(id)
     }
 
@@ -207,13 +208,14 @@ impl Elements {
         requires x_live { IsLive self.old.elements x }
         requires y_live { IsLive self.old.elements y }
         ensures fits { OnOk result (first_of (assign_checks self.old.elements self.old.assigned x y) ≡ None) }
-        ensures ok { OnOk result (self.new ≡ record self.old { assigned = self.old.assigned ++ (x, y) ∷ [] }) }
+        ensures ok { OnOk result (self.new ≡ record self.old { assigned = with_assignment (x, y) self.old.assigned }) }
         ensures refused { IfErr result (λ e. IsCause (first_of (assign_checks self.old.elements self.old.assigned x y)) (told e)) }
         ensures ends { IfErr result (IsCycleOf x y) }
         ensures err { OnErr result (self.new ≡ self.old) }
     {
         self.check_assign(x, y)?;
-        link(&mut self.slots, &mut self.pairs, x, y)?;
+        link(&mut self.slots, x, y)?;
+        self.links += 1;
         Ok(())
     }
 
@@ -229,7 +231,8 @@ impl Elements {
         ensures err { OnErr result (self.new ≡ self.old) }
     {
         self.check_deassign(x, y)?;
-        unlink(&mut self.slots, &mut self.pairs, x, y);
+        unlink(&mut self.slots, x, y);
+        self.links -= 1;
         Ok(())
     }
 
@@ -247,8 +250,10 @@ impl Elements {
         if self.has_children(id) {
             return Err(ElementsError::Occupied);
         }
-        take_out(&mut self.slots, &mut self.pairs, &mut self.names, id);
+        let links = self.containers(id);
+        take_out(&mut self.slots, &mut self.names, id);
         self.live -= 1;
+        self.links -= links;
         Ok(())
     }
 
@@ -268,7 +273,7 @@ impl Elements {
     }
 
     /// Whether something is assigned to a live element.
-    #[tactic(auto, using(crate::proofs::Pairs::child_held))]
+    #[tactic(auto, using(crate::proofs::Held::child_held))]
     pub fn has_children(&self, id: ElementId) -> bool
         requires { IsLive self.now.elements id }
         ensures { result ≡ has_child self.now.assigned id }
@@ -290,7 +295,7 @@ impl Elements {
     pub(crate) fn assignments(&self) -> usize
         ensures { result ≡ length self.now.assigned }
     {
-        self.pairs.len()
+        self.links
     }
 
     /// Whether a live element has the name.
@@ -319,7 +324,7 @@ impl Elements {
     }
 
     /// Whether x is assigned to y.
-    #[tactic(auto, using(crate::proofs::Pairs::pair_held))]
+    #[tactic(auto, using(crate::proofs::Held::pair_held))]
     pub(crate) fn is_assigned(&self, x: ElementId, y: ElementId) -> bool
         requires { IsLive self.now.elements x }
         ensures { result ≡ list_any (is_pair x y) self.now.assigned }
@@ -328,7 +333,7 @@ impl Elements {
     }
 
     /// How many elements x is assigned to.
-    #[tactic(auto, using(crate::proofs::Pairs::count_held))]
+    #[tactic(auto, using(crate::proofs::Held::count_held))]
     pub(crate) fn containers(&self, x: ElementId) -> usize
         requires { IsLive self.now.elements x }
         ensures { result ≡ length (filter (is_from x) self.now.assigned) }
@@ -355,10 +360,12 @@ impl Parents for Elements {
 
     ghost assigned = { λ t. t.assigned };
 
+    #[tactic(auto, using(crate::proofs::Held::containers_count))]
     fn count(&self, x: ElementId) -> usize {
         parent_count(&self.slots, x)
     }
 
+    #[tactic(auto, using(crate::proofs::Assigned::containers_held))]
     fn parent(&self, x: ElementId, i: usize) -> ElementId {
         *taken_slot(&self.slots, x).parents.at(i)
     }

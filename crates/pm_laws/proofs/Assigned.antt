@@ -1,24 +1,24 @@
 -- The assignments, where one comes or goes and where an element comes: one lemma for each change of the lists.
-use Rattle.std.proofs.Common.{◌≡◌, ◌<◌, ◌==◌, ℕ, List, [], ◌∷◌, ◌++◌, length, not, Some, true, false, refl, arith, length-append, filter, Contains, inl, inr}
+use Rattle.std.proofs.Common.{◌≡◌, ◌<◌, ◌==◌, ℕ, List, [], ◌∷◌, length, not, Some, true, false, refl, arith, filter, Contains, inl, inr}
 use Rattle.std.specs.List.{list_any}
-use Rattle.std.proofs.lemmas.List.Elements.{Contains-append_left, Contains-push}
 use Rattle.std.proofs.lemmas.Bool.{cases_Bool, false_from_ne_true}
 use Rattle.pm_model.specs.State.{element, element_at}
 use Rattle.pm_model.specs.Containment.{contained}
-use Rattle.pm_model.specs.Effect.{placed, is_pair, is_from, may_assign, may_create, max_assignments}
+use Rattle.pm_model.specs.Effect.{placed, with_assignment, is_pair, is_from, may_assign, may_create, max_assignments}
 use Rattle.pm_model.specs.Resolve.{unused}
 use Rattle.pm_model.specs.Formed.{Each, IsLive, JoinsKinds, IsInClass, AreElements, AreAssigned}
 use Rattle.pm_model.specs.declared.elements.Kind.TheVariants.{Pc}
 use Rattle.pm_model.specs.declared.elements.Element.{Element}
 use Rattle.pm_model.proofs.ContainmentLaws.{contained-itself}
-use Rattle.pm_laws.proofs.Items.{each-push, each-filter, each-to, each-at, each-from, filter-contains, length-filter, contains-first, contains-rest}
+use Rattle.pm_laws.proofs.Added.{added-has, length-added, each-added}
+use Rattle.pm_laws.proofs.Items.{each-filter, each-to, each-at, each-from, filter-contains, length-filter, contains-first, contains-rest}
 use Rattle.pm_laws.proofs.Numbers.{placed-new, placed-old, placed-cases, live-apart}
 use Rattle.pm_laws.proofs.Ends.{both-placed, both-live, joins-live, joins-new}
-use Rattle.pm_laws.proofs.Pairs.{pair-is, assigned-is, once-push, once-filter, without, without-keeps, other-container}
-use Rattle.pm_laws.proofs.Shape.{IsWithin, HasClass, acyclic-within, acyclic-pushed, contained-live, class-from, class-within, class-live, class-through, class-kept, classes-to}
+use Rattle.pm_laws.proofs.Pairs.{pair-is, assigned-is, once-added, once-filter, without, without-keeps, other-container}
+use Rattle.pm_laws.proofs.Shape.{IsWithin, HasClass, acyclic-within, acyclic-added, contained-live, class-from, class-within, class-live, class-through, class-kept, classes-to}
 
-pub pushed-within : (pairs : List (ℕ × ℕ)) (x y : ℕ) → IsWithin pairs (pairs ++ (x, y) ∷ [])
-pushed-within pairs x y a b c = Contains-append_left pairs ((x, y) ∷ []) (a, b) c
+pub within-added : (pairs : List (ℕ × ℕ)) (x y : ℕ) → IsWithin pairs (with_assignment (x, y) pairs)
+within-added pairs x y a b c = added-has (x, y) pairs (a, b) (contains-rest (x, y) (a, b) pairs c)
 
 without-within : (pairs : List (ℕ × ℕ)) (x y : ℕ) → IsWithin (without x y pairs) pairs
 without-within pairs x y a b c = (filter-contains (λ pair. not (is_pair x y pair)) pairs (a, b) c).0
@@ -29,15 +29,15 @@ within-without pairs x y a b c = elim (cases_Bool (is_pair x y (a, b))) [
   | inr other ↦ contains-rest (x, y) (a, b) (without x y pairs) (without-keeps x y pairs (a, b) c other)
 ]
 
-pub assigned-pushed : (es : List Element) (pairs : List (ℕ × ℕ)) (x y : ℕ) → AreAssigned es pairs → JoinsKinds es (x, y) →
+pub assigned-added : (es : List Element) (pairs : List (ℕ × ℕ)) (x y : ℕ) → AreAssigned es pairs → JoinsKinds es (x, y) →
     list_any (is_pair x y) pairs ≡ false → contained pairs y x ≡ false → length pairs < max_assignments →
-    AreAssigned es (pairs ++ (x, y) ∷ [])
-assigned-pushed es pairs x y h fits free apart room = let l = length-append pairs ((x, y) ∷ []) in record {
-  kinds = each-push (JoinsKinds es) pairs (x, y) h.kinds fits;
-  once = once-push pairs x y h.once free;
-  acyclic = acyclic-pushed pairs x y h.acyclic (λ up. cc);
-  classes = classes-to es es pairs (pairs ++ (x, y) ∷ [])
-      (class-within es es pairs (pairs ++ (x, y) ∷ []) (λ c there. there) (pushed-within pairs x y)) h.classes;
+    AreAssigned es (with_assignment (x, y) pairs)
+assigned-added es pairs x y h fits free apart room = let l = length-added (x, y) pairs in record {
+  kinds = each-added (x, y) (JoinsKinds es) pairs h.kinds fits;
+  once = once-added pairs x y h.once free;
+  acyclic = acyclic-added pairs x y h.acyclic (λ up. cc);
+  classes = classes-to es es pairs (with_assignment (x, y) pairs)
+      (class-within es es pairs (with_assignment (x, y) pairs) (λ c there. there) (within-added pairs x y)) h.classes;
   few = omega (arith, l, room);
 }
 
@@ -104,23 +104,23 @@ new-empty es pairs x y e u kinds live up = live-apart es x e.rising (contained-l
 -- a new element in a container
 pub assigned-under : (es : List Element) (x : Element) (pairs : List (ℕ × ℕ)) (c : ℕ) → AreElements es → x.number ≡ unused es →
     AreAssigned es pairs → may_create es x.kind (Some c) ≡ true → length pairs < max_assignments →
-    AreAssigned (placed x es) (pairs ++ (x.number, c) ∷ [])
-assigned-under es x pairs c e u h may room = let l = length-append pairs ((x.number, c) ∷ []) in record {
-  kinds = each-push (JoinsKinds (placed x es)) pairs (x.number, c)
+    AreAssigned (placed x es) (with_assignment (x.number, c) pairs)
+assigned-under es x pairs c e u h may room = let l = length-added (x.number, c) pairs in record {
+  kinds = each-added (x.number, c) (JoinsKinds (placed x es)) pairs
       (kinds-placed es x pairs e u h.kinds) (joins-new x es c e.rising u may);
-  once = once-push pairs x.number c h.once (new-unassigned es pairs x.number c e u h.kinds);
-  acyclic = acyclic-pushed pairs x.number c h.acyclic (new-empty es pairs x.number c e u h.kinds live);
-  classes = classes-placed es x pairs more (pushed-within pairs x.number c) h.classes
-      (class-through (placed x es) more x.number c (Contains-push pairs (x.number, c)) of_container);
+  once = once-added pairs x.number c h.once (new-unassigned es pairs x.number c e u h.kinds);
+  acyclic = acyclic-added pairs x.number c h.acyclic (new-empty es pairs x.number c e u h.kinds live);
+  classes = classes-placed es x pairs more (within-added pairs x.number c) h.classes
+      (class-through (placed x es) more x.number c (added-has (x.number, c) pairs (x.number, c) (contains-first (x.number, c) pairs)) of_container);
   few = omega (arith, l, room);
 } where
   more : List (ℕ × ℕ)
-  more = pairs ++ (x.number, c) ∷ []
+  more = with_assignment (x.number, c) pairs
 
   live : IsLive es c
   live = (both-live may_assign (Some (element 0 x.kind [])) (element_at es c) may).1
 
   of_container : HasClass (placed x es) more c
   of_container =
-      class-within es (placed x es) pairs more (placed-old x es) (pushed-within pairs x.number c) c
+      class-within es (placed x es) pairs more (placed-old x es) (within-added pairs x.number c) c
       (class-live es pairs c h.classes live)

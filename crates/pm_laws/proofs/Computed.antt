@@ -14,7 +14,7 @@ use Rattle.pm_model.specs.declared.replies.Refusal.TheVariants.{InUse}
 
 pub examples_made : Each (λ row. IsNamed row.0 row.1 × (effect row.0 row.1 ≡ Ok row.2)) made
 unfolding contained opening_rights commands word_text
-examples_made = (((refl, refl), refl), (((refl, refl), refl), (((refl, refl), refl), (((refl, refl), refl), (((refl, refl), refl), (((refl, refl), refl), (((refl, refl, omega arith), refl), (((refl, refl), refl), ((refl, refl), ((refl, refl), ((refl, refl), (((refl, omega arith), refl), ((omega arith, refl), (((refl, (refl, tt), tt, omega arith), refl), (((refl, (refl, tt), tt, omega arith), refl), ((tt, refl), ((tt, refl), ((omega arith, refl), ((tt, refl), tt)))))))))))))))))))
+examples_made = (((refl, refl), refl), (((refl, refl), refl), (((refl, refl), refl), (((refl, refl), refl), (((refl, refl), refl), (((refl, refl), refl), (((refl, refl), refl), (((refl, refl, omega arith), refl), (((refl, refl), refl), ((refl, refl), ((refl, refl), ((refl, refl), (((refl, omega arith), refl), ((omega arith, refl), (((refl, (refl, tt), tt, omega arith), refl), (((refl, (refl, tt), tt, omega arith), refl), ((tt, refl), ((tt, refl), ((omega arith, refl), ((tt, refl), tt))))))))))))))))))))
 
 pub examples_refused : Each (λ row. effect staffed row.0 ≡ Err row.1) refused
 unfolding contained

@@ -7,7 +7,7 @@ use Rattle.pm_model.specs.Sessions.{Procs, is_session_of, opening_procs, process
 use Rattle.pm_model.specs.Prohibitions.{without_processes, names_element}
 use Rattle.pm_model.specs.RightSet.{opening_rights}
 use Rattle.pm_model.specs.Containment.{contained}
-use Rattle.pm_model.specs.Effect.{refusal, changed, effect, checks, max_elements, placed, joins, has_child, has_end, is_in_use}
+use Rattle.pm_model.specs.Effect.{refusal, changed, effect, checks, max_elements, placed, with_assignment, joins, has_child, has_end, is_in_use}
 use Rattle.pm_model.specs.Resolve.{unused}
 use Rattle.pm_model.specs.Formed.{Each, IsWellFormed, IsAcyclic, IsNamed, AreElements, AreAssigned, AreAssociations, AreProhibitions, AreRights, AreProcs, StandsAssigned}
 use Rattle.pm_model.specs.declared.elements.Element.{Element}
@@ -19,8 +19,8 @@ use Rattle.pm_laws.proofs.Items.{contains-none}
 use Rattle.pm_laws.proofs.Checks.{passed, unless-ok}
 use Rattle.pm_laws.proofs.Numbers.{length-placed, rising-placed}
 use Rattle.pm_laws.proofs.Names.{names-placed}
-use Rattle.pm_laws.proofs.Shape.{IsWithin, acyclic-pushed}
-use Rattle.pm_laws.proofs.Assigned.{pushed-within, assigned-pushed, assigned-without, assigned-placed, assigned-under}
+use Rattle.pm_laws.proofs.Shape.{IsWithin, acyclic-added}
+use Rattle.pm_laws.proofs.Assigned.{within-added, assigned-added, assigned-without, assigned-placed, assigned-under}
 use Rattle.pm_laws.proofs.Associations.{associations-joined, associations-kept, associations-placed, associations-rights, associations-none}
 use Rattle.pm_laws.proofs.RightNames.{rights-more, rights-opening}
 use Rattle.pm_laws.proofs.Procs.{procs-opened, procs-closed, procs-started, procs-ended, procs-placed}
@@ -151,13 +151,13 @@ formed-changed G (change.Create id kind name (Some c)) f n r =
     let p = passed (checks G (change.Create id kind name (Some c))) r in
     with-element G x _ f n.0 (elements-placed G.elements x f.elements n.0 p.1.0 (leb-false _ _ p.1.1.0))
     (assigned-under G.elements x G.assigned c f.elements n.0 f.assigned (not-false _ p.0) (leb-false _ _ p.1.1.1.0))
-    (pushed-within G.assigned id c)
+    (within-added G.assigned id c)
 formed-changed G (change.Delete id) f n r =
     let p = passed (checks G (change.Delete id)) r in without-element G id f (ltb-false id 3 p.0) p.1.0 p.1.1.0
 formed-changed G (change.Assign x y) f n r =
     let p = passed (checks G (change.Assign x y)) r in
-    with-assigned G _ f (assigned-pushed G.elements G.assigned x y f.assigned (not-false _ p.0) p.1.0 p.1.1.0 (leb-false _ _ p.1.1.1.0))
-    (opening-within G.assigned (G.assigned ++ (x, y) ∷ []) (pushed-within G.assigned x y) f.opening.assigned)
+    with-assigned G _ f (assigned-added G.elements G.assigned x y f.assigned (not-false _ p.0) p.1.0 p.1.1.0 (leb-false _ _ p.1.1.1.0))
+    (opening-within G.assigned (with_assignment (x, y) G.assigned) (within-added G.assigned x y) f.opening.assigned)
 formed-changed G (change.Deassign x y) f n r =
     let p = passed (checks G (change.Deassign x y)) r in
     with-assigned G _ f (assigned-without G.elements G.assigned x y f.assigned (not-false _ p.1.0) p.1.1.0)
@@ -220,7 +220,7 @@ formed-opening = record {
   assigned = record {
     kinds = (refl, (refl, tt));
     once = (refl, (refl, tt));
-    acyclic = acyclic-pushed ((1, 0) ∷ []) 2 1 (acyclic-pushed [] 1 0 acyclic-none (λ up. cc)) (λ up. cc);
+    acyclic = acyclic-added ((1, 0) ∷ []) 2 1 (acyclic-added [] 1 0 acyclic-none (λ up. cc)) (λ up. cc);
     classes = (refl, (refl, (refl, tt)));
     few = omega arith;
   };

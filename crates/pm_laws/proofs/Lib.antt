@@ -1,5 +1,6 @@
 pub mod Accepted
 pub mod Acting
+pub mod Added
 mod Asking
 pub mod Assigned
 pub mod Associations

@@ -1,11 +1,11 @@
 -- Assignments as pairs of which none stands twice.
-use Rattle.std.proofs.Common.{◌≡◌, ◌==◌, ℕ, List, [], ◌∷◌, ◌++◌, length, Bool, true, false, not, refl, rules, eq-eqb, filter, Contains, inl, inr}
+use Rattle.std.proofs.Common.{◌≡◌, ◌==◌, ℕ, List, [], ◌∷◌, length, Bool, true, false, not, refl, rules, eq-eqb, filter, Contains, inl, inr}
 use Rattle.std.specs.List.{list_any}
 use Rattle.std.proofs.lemmas.Bool.{cases_Bool, or_parts, and_parts, eqb-true, false_from_ne_true}
-use Rattle.std.proofs.lemmas.List.Elements.{Contains-push_cases}
-use Rattle.pm_model.specs.Effect.{is_pair, is_from}
+use Rattle.pm_model.specs.Effect.{is_pair, is_from, with_assignment}
 use Rattle.pm_model.specs.Formed.{StandOnce}
-use Rattle.pm_laws.proofs.Items.{filter-split, contains-first, contains-rest, contains-filter, filter-contains, none-at, none-from, any-found, any-from, contains-none}
+use Rattle.pm_laws.proofs.Items.{filter-split, contains-first, contains-rest, contains-cases, contains-filter, filter-contains, none-at, none-from, any-found, any-from, contains-none}
+use Rattle.pm_laws.proofs.Added.{added-split, has-added}
 
 -- ---- the test of a pair
 
@@ -33,17 +33,17 @@ pair-swapped p q h =
 
 -- ---- each pair stands once
 
-pub once-push : (pairs : List (ℕ × ℕ)) (x y : ℕ) → StandOnce pairs → list_any (is_pair x y) pairs ≡ false →
-    StandOnce (pairs ++ (x, y) ∷ [])
-once-push [] x y h free = (refl, tt)
-once-push (p ∷ pairs) x y h free = (others, once-push pairs x y h.1 apart.1) where
+pub once-added : (pairs : List (ℕ × ℕ)) (x y : ℕ) → StandOnce pairs → list_any (is_pair x y) pairs ≡ false →
+    StandOnce (with_assignment (x, y) pairs)
+once-added [] x y h free = (refl, tt)
+once-added (p ∷ pairs) x y h free = added-split (x, y) StandOnce p pairs (free, h) (others, once-added pairs x y h.1 apart.1) where
   apart : (is_pair x y p ≡ false) × (list_any (is_pair x y) pairs ≡ false)
   apart = or_parts (is_pair x y p) (list_any (is_pair x y) pairs) free
 
-  others : list_any (is_pair p.0 p.1) (pairs ++ (x, y) ∷ []) ≡ false
-  others = none-from (is_pair p.0 p.1) (pairs ++ (x, y) ∷ []) (λ q c. elim (Contains-push_cases pairs (x, y) q c) [
-    | inl old ↦ none-at (is_pair p.0 p.1) pairs q h.0 old
-    | inr new ↦ rw (← new) (pair-swapped (x, y) p apart.0)
+  others : list_any (is_pair p.0 p.1) (with_assignment (x, y) pairs) ≡ false
+  others = none-from (is_pair p.0 p.1) (with_assignment (x, y) pairs) (λ q c. elim (contains-cases (x, y) q pairs (has-added (x, y) pairs q c)) [
+    | inl new ↦ rw (← new) (pair-swapped (x, y) p apart.0)
+    | inr old ↦ none-at (is_pair p.0 p.1) pairs q h.0 old
   ])
 
 pub once-filter : (test : (ℕ × ℕ) → Bool) (pairs : List (ℕ × ℕ)) → StandOnce pairs → StandOnce (filter test pairs)

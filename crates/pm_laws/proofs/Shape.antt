@@ -3,11 +3,12 @@ use Rattle.std.proofs.Common.{◌≡◌, ℕ, Bool, true, List, [], ◌∷◌, �
 use Rattle.std.proofs.lemmas.Bool.{and_from, and_parts}
 use Rattle.pm_model.specs.Containment.{contained, Leads, IsContained}
 use Rattle.pm_model.specs.State.{is_class}
+use Rattle.pm_model.specs.Effect.{with_assignment}
 use Rattle.pm_model.specs.Formed.{Each, IsAcyclic, IsInClass, IsLive, JoinsKinds}
 use Rattle.pm_model.specs.declared.elements.Element.{Element}
 use Rattle.pm_model.proofs.ContainmentLaws.{contained-cases, contained-trans, contained-pair, contained-from_path, path-from_contained, Leads-append}
-use Rattle.std.proofs.lemmas.List.Elements.{Contains-push_cases}
-use Rattle.pm_laws.proofs.Items.{contains-first, contains-rest, contains-cases, any-from, any-found, each-at, each-to}
+use Rattle.pm_laws.proofs.Added.{has-added}
+use Rattle.pm_laws.proofs.Items.{contains-cases, any-from, any-found, each-at, each-to}
 use Rattle.pm_laws.proofs.Ends.{joins-live}
 use Rattle.pm_laws.proofs.Numbers.{live-found, found-at}
 
@@ -61,16 +62,11 @@ no_return-more assigned x y h apart a b c up =
       ]
     ]
 
-pub acyclic-pushed : (assigned : List (ℕ × ℕ)) (x y : ℕ) → IsAcyclic assigned → (contained assigned y x ≡ true → ⊥) →
-    IsAcyclic (assigned ++ (x, y) ∷ [])
-acyclic-pushed assigned x y h apart =
-    acyclic-within (assigned ++ (x, y) ∷ []) ((x, y) ∷ assigned) moved
-    (acyclic-from_no_return ((x, y) ∷ assigned) (no_return-more assigned x y (no_return-from_acyclic assigned h) apart)) where
-      moved : IsWithin (assigned ++ (x, y) ∷ []) ((x, y) ∷ assigned)
-      moved a b c = elim (Contains-push_cases assigned (x, y) (a, b) c) [
-        | inl old ↦ contains-rest (x, y) (a, b) assigned old
-        | inr new ↦ rw new (contains-first (a, b) assigned)
-      ]
+pub acyclic-added : (assigned : List (ℕ × ℕ)) (x y : ℕ) → IsAcyclic assigned → (contained assigned y x ≡ true → ⊥) →
+    IsAcyclic (with_assignment (x, y) assigned)
+acyclic-added assigned x y h apart =
+    acyclic-within (with_assignment (x, y) assigned) ((x, y) ∷ assigned) (λ a b. has-added (x, y) assigned (a, b))
+    (acyclic-from_no_return ((x, y) ∷ assigned) (no_return-more assigned x y (no_return-from_acyclic assigned h) apart))
 
 -- where each is contained in the other the two are one
 pub contained-antisymmetric : (assigned : List (ℕ × ℕ)) → IsAcyclic assigned → (x y : ℕ) → IsContained assigned x y →

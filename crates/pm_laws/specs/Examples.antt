@@ -80,10 +80,16 @@ made =
     ∷ (
       opening_with (surgeons ∷ []) ((4, 0) ∷ []),
       Create 3 Ua (codes "doctors") (Some 4),
-      opening_with (doctors ∷ surgeons ∷ []) ((4, 0) ∷ (3, 4) ∷ []),
+      opening_with (doctors ∷ surgeons ∷ []) ((3, 4) ∷ (4, 0) ∷ []),
     )
     ∷ (opening.graph, Create 3 Pc (codes "wards") None, opening_with (element 3 Pc (codes "wards") ∷ []) [])
     ∷ (staffed, Assign 4 0, held_twice)
+    -- an assignment comes before those of a higher element, however late it is made
+    ∷ (
+      opening_with (doctors ∷ surgeons ∷ []) ((3, 0) ∷ (4, 0) ∷ []),
+      Assign 3 4,
+      opening_with (doctors ∷ surgeons ∷ []) ((3, 0) ∷ (3, 4) ∷ (4, 0) ∷ []),
+    )
     ∷ (held_twice, Deassign 4 3, opening_with (doctors ∷ surgeons ∷ []) ((3, 0) ∷ (4, 0) ∷ []))
     ∷ (staffed, Associate 3 1 4, associated)
     ∷ (associated, Dissociate 3 4, staffed)

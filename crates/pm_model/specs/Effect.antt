@@ -106,10 +106,15 @@ is_pair x y pair = pair.0 == x && pair.1 == y
 abbrev pub is_from : ℕ → (ℕ × ℕ) → Bool
 is_from x pair = pair.0 == x
 
+-- the list with this assignment behind those of elements up to its own
+abbrev pub with_assignment : (ℕ × ℕ) → List (ℕ × ℕ) → List (ℕ × ℕ)
+with_assignment p [] = p ∷ []
+with_assignment p (q ∷ qs) = if nat_lt p.0 q.0 then p ∷ q ∷ qs else q ∷ with_assignment p qs
+
 -- the assignments with that of a new element to its container, where it has one
 abbrev pub with_pair : Option ℕ → ℕ → List (ℕ × ℕ) → List (ℕ × ℕ)
 with_pair None x pairs = pairs
-with_pair (Some y) x pairs = pairs ++ (x, y) ∷ []
+with_pair (Some y) x pairs = with_assignment (x, y) pairs
 
 abbrev pub joins : ℕ → ℕ → Association → Bool
 joins ua at a = a.ua == ua && a.at == at
@@ -199,7 +204,7 @@ changed G (change.Delete id) =
       elements = filter (λ e. not (is_numbered id e)) G.elements;
       assigned = filter (λ pair. not (is_from id pair)) G.assigned;
     }
-changed G (change.Assign x y) = record G { assigned = G.assigned ++ (x, y) ∷ [] }
+changed G (change.Assign x y) = record G { assigned = with_assignment (x, y) G.assigned }
 changed G (change.Deassign x y) = record G { assigned = filter (λ pair. not (is_pair x y pair)) G.assigned }
 changed G (change.Associate u r t) = record G { associations = joined (record { ua = u; rights = r; at = t }) G.associations }
 changed G (change.Dissociate u t) = record G { associations = filter (λ a. not (joins u t a)) G.associations }

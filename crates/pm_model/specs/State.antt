@@ -13,7 +13,7 @@ use Rattle.pm_model.specs.Sessions.{Procs, opening_procs}
 pub record Graph : Type 0 where
   -- the live policy elements, by rising number
   pub elements : List Element
-  -- the assignments, in order of creation
+  -- the assignments, by rising element assigned, those of one in order of creation
   pub assigned : List (ℕ × ℕ)
   -- the associations, by rising user attribute, those of one in order of creation
   pub associations : List Association

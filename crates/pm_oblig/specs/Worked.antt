@@ -89,7 +89,7 @@ abbrev pub office_after : Graph
 office_after =
     record opening_graph {
       elements = office_elements ++ element 9 Object (codes "x7.1.3") ∷ [];
-      assigned = office_assigned ++ (7, 8) ∷ (9, 8) ∷ [];
+      assigned = opening_assigned ++ (4, 3) ∷ (5, 4) ∷ (6, 3) ∷ (7, 6) ∷ (7, 8) ∷ (8, 3) ∷ (9, 8) ∷ [];
       prohibitions = prohibition (codes "x7.2.1") (Process 0) 2 (8 ∷ []) [] All ∷ [];
     }
 

@@ -5,7 +5,7 @@ use Rattle.pm_model.specs.RightSet.{opening_rights, commands}
 use Rattle.pm_model.specs.Words.{word_text}
 use Rattle.pm_model.specs.History.{replay, IsLegal}
 use Rattle.pm_model.specs.Formed.{Each}
-use Rattle.pm_rows.specs.Histories.{two_entries, after_two, legal, illegal}
+use Rattle.pm_rows.specs.Histories.{two_entries, after_two, late_assignment, after_late, legal, illegal}
 
 pub histories_legal : Each IsLegal legal
 unfolding opening_rights commands word_text
@@ -36,3 +36,7 @@ histories_illegal = (
 pub history_replayed : replay two_entries ≡ after_two
 unfolding opening_rights commands word_text
 history_replayed = refl
+
+pub late_replayed : replay late_assignment ≡ after_late
+unfolding contained opening_rights commands word_text
+late_replayed = refl

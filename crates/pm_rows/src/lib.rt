@@ -6,7 +6,7 @@ ghost use Rattle.pm_model.specs.Formed.{Each};
 ghost use Rattle.pm_model.specs.History.{replay, IsLegal};
 ghost use Rattle.pm_model.specs.Effect.{may_assign, may_associate};
 ghost use Rattle.pm_model.specs.Name.{is_name, is_name_byte};
-ghost use Rattle.pm_rows.specs.Histories.{two_entries, after_two, legal, illegal};
+ghost use Rattle.pm_rows.specs.Histories.{two_entries, after_two, late_assignment, after_late, legal, illegal};
 ghost use Rattle.pm_rows.specs.Rows.{Hold, rows};
 ghost use Rattle.pm_rows.specs.Denials.{denial_rows};
 ghost use Rattle.pm_rows.specs.Forms.{form_rows};
@@ -28,11 +28,12 @@ pub fn forms_hold()
 {}
 
 /// Which histories are legal, and what the replay of one is.
-#[tactic(auto, using(crate::proofs::Computed::histories_legal, crate::proofs::Computed::histories_illegal, crate::proofs::Computed::history_replayed))]
+#[tactic(auto, using(crate::proofs::Computed::histories_legal, crate::proofs::Computed::histories_illegal, crate::proofs::Computed::history_replayed, crate::proofs::Computed::late_replayed))]
 pub fn histories_told()
     ensures legal { Each IsLegal legal }
     ensures illegal { Each (λ H. IsLegal H → ⊥) illegal }
     ensures replayed { replay two_entries ≡ after_two }
+    ensures late { replay late_assignment ≡ after_late }
 {}
 
 /// Of all pairs of kinds these may be assigned, and these associated.

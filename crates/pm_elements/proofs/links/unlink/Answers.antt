@@ -1,11 +1,7 @@
-use Rattle.std.proofs.Common.{is_some, ◌∙◌, rules}
-use Rattle.std.proofs.lemmas.Fn.{filter_same}
+use Rattle.std.proofs.Common.{is_some, ◌∙◌}
 use Rattle.pm_elements.specs.Slots.{without_parent}
 use Rattle.pm_elements.proofs.Edits.{kept_by, some_edited}
 use Rattle.pm_elements.proofs.links.unlink.Goals as goal
 
 pub drop_child-requires : goal.drop_child-requires
 drop_child-requires c = rw c.drop_parent.ensures (kept_by is_some (without_parent c.args.y) (some_edited (without_parent c.args.y)) c.args.x c.args.y c.args.slots.now.items ∙ c.requires.y_live)
-
-pub returns-clause-pairs : goal.returns-clause-pairs
-returns-clause-pairs c = filter_same _ _ _ (λ x b f' k. search rules) _ _ c.retain.ensures.filtered

@@ -1,12 +1,9 @@
 -- One assignment less, where nothing refuses it.
 use Rattle.std.proofs.Common.{ap, ◌∙◌}
-use Rattle.std.proofs.lemmas.Bool.{not-false}
-use Rattle.pm_laws.proofs.Checks.{passed}
-use Rattle.pm_model.specs.Effect.{deassign_checks, is_pair}
-use Rattle.std.specs.List.{list_any}
-use Rattle.pm_elements.specs.Slots.{shown}
+use Rattle.pm_elements.specs.Slots.{shown, pairs_of}
 use Rattle.pm_elements.proofs.Shown.{slot_taken}
-use Rattle.pm_elements.proofs.Linking.{Kept-unlinked, shown-unlinked, same_table}
+use Rattle.pm_elements.proofs.Fits.{deassign_fits}
+use Rattle.pm_elements.proofs.Linking.{Kept-unlinked, shown-unlinked, pairs-unlinked, same_table}
 use Rattle.pm_elements.proofs.table.Elements.deassign.Goals as goal
 
 pub unlink-requires-clause-x_live : goal.unlink-requires-clause-x_live
@@ -18,14 +15,12 @@ unlink-requires-clause-y_live c = slot_taken c.self.inside.slots.items c.args.y 
 pub invariant_of-self : goal.invariant_of-self
 invariant_of-self c =
     let slots = c.self.inside.slots.items in
-    let pairs = c.self.inside.pairs.items in
-    let p = passed (deassign_checks pairs c.args.x c.args.y) (rw (← c.self.view_is) at c.in_ok-check_deassign.ensures.fits) in
-    rw (c.unlink.ensures.slots, c.unlink.ensures.pairs)
-    (Kept-unlinked slots pairs c.self.inside.names.entries c.self.inside.live c.args.x c.args.y c.self.invariant
-    (not-false (list_any (is_pair c.args.x c.args.y) pairs) p.0))
+    rw c.unlink.ensures
+    (Kept-unlinked slots c.self.inside.names.entries c.self.inside.live c.self.inside.links c.args.x c.args.y c.self.invariant
+    (deassign_fits (pairs_of slots) c.args.x c.args.y (rw (← c.self.view_is) at c.in_ok-check_deassign.ensures.fits)))
 
 pub returns-clause-ok : goal.returns-clause-ok
 returns-clause-ok c =
     let slots = c.self.inside.slots.items in
     rw (← c.self.view_is)
-    (same_table (ap shown c.unlink.ensures.slots ∙ shown-unlinked c.args.x c.args.y slots) c.unlink.ensures.pairs)
+    (same_table (ap shown c.unlink.ensures ∙ shown-unlinked c.args.x c.args.y slots) (ap pairs_of c.unlink.ensures ∙ pairs-unlinked c.args.x c.args.y slots))
