@@ -1,5 +1,5 @@
 -- The associations of a user attribute are asked about together.
-use Rattle.std.proofs.Common.{◌≡◌, ℕ, ◌+◌, Bool, true, false, List, [], ◌∷◌, ◌&&◌, ◌||◌, Some, drop, slice_get, refl, sym, ◌∙◌}
+use Rattle.std.proofs.Common.{◌≡◌, ℕ, ◌+◌, Bool, true, false, List, [], ◌∷◌, ◌++◌, ◌&&◌, ◌||◌, Some, length, take, drop, slice_get, append_assoc, refl, sym, ap, ◌∙◌}
 use Rattle.std.proofs.lemmas.List.Folds.{list_any-append}
 use Rattle.std.specs.List.{list_any}
 use Rattle.pm_model.specs.declared.rights.Grant.{Grant}
@@ -7,6 +7,7 @@ use Rattle.pm_model.specs.declared.rights.Grantee.{Grantee}
 use Rattle.pm_model.specs.Decision.{meets, is_met, of_grantee, associations_of}
 use Rattle.pm_decide.specs.Gives.{gives}
 use Rattle.pm_model.proofs.Walks.{drop-item}
+use Rattle.pm_decide.proofs.Runs.{or-run}
 
 none_in : (in_ua : Bool) → false ≡ (in_ua && false)
 none_in true = refl
@@ -24,6 +25,12 @@ either_yes a rest h = rw (← h) refl
 
 either_no : (a rest : Bool) → false ≡ a → (a || rest) ≡ rest
 either_no a rest h = rw (← h) refl
+
+associations-append : (front rest : List Grantee) → associations_of (front ++ rest) ≡ associations_of front ++ associations_of rest
+associations-append [] rest = refl
+associations-append (g ∷ front) rest =
+    ap (λ more. of_grantee g ++ more) (associations-append front rest)
+    ∙ sym (append_assoc (of_grantee g) (associations_of front) (associations_of rest))
 
 module _ (below : ℕ → ℕ → Bool) (u r e pc : ℕ) where
   any_of_group : (ua : ℕ) (hs : List Grant) →
@@ -61,3 +68,27 @@ module _ (below : ℕ → ℕ → Bool) (u r e pc : ℕ) where
       slice_get gs i ≡ Some g → false ≡ is_met below (of_grantee g) u r e pc →
       is_met below (associations_of gs) u r e pc ≡ is_met below (associations_of (drop (i + 1) gs)) u r e pc
   group-no gs i g rest is fails = rest ∙ is_met-drop gs i g is ∙ either_no _ _ fails
+
+  -- those of a run of user attributes are asked about, and then those behind it
+  is_met-append : (front rest : List Grantee) →
+      is_met below (associations_of (front ++ rest)) u r e pc
+      ≡ (is_met below (associations_of front) u r e pc || is_met below (associations_of rest) u r e pc)
+  is_met-append front rest =
+      ap (list_any (meets below u r e pc)) (associations-append front rest)
+      ∙ list_any-append (meets below u r e pc) (associations_of front) (associations_of rest)
+
+  pub is_met-run : (gs run : List Grantee) (i : ℕ) → run ≡ take (length run) (drop i gs) →
+      is_met below (associations_of (drop i gs)) u r e pc
+      ≡ (is_met below (associations_of run) u r e pc || is_met below (associations_of (drop (i + length run) gs)) u r e pc)
+  is_met-run gs run i lent = or-run gs run i lent (λ some. is_met below (associations_of some) u r e pc) is_met-append
+
+  pub run-yes : (gs run : List Grantee) (i : ℕ) → run ≡ take (length run) (drop i gs) →
+      is_met below (associations_of gs) u r e pc ≡ is_met below (associations_of (drop i gs)) u r e pc →
+      true ≡ is_met below (associations_of run) u r e pc → true ≡ is_met below (associations_of gs) u r e pc
+  run-yes gs run i lent rest passes = sym (rest ∙ is_met-run gs run i lent ∙ either_yes _ _ passes)
+
+  pub run-no : (gs run : List Grantee) (i : ℕ) → run ≡ take (length run) (drop i gs) →
+      is_met below (associations_of gs) u r e pc ≡ is_met below (associations_of (drop i gs)) u r e pc →
+      false ≡ is_met below (associations_of run) u r e pc →
+      is_met below (associations_of gs) u r e pc ≡ is_met below (associations_of (drop (i + length run) gs)) u r e pc
+  run-no gs run i lent rest fails = rest ∙ is_met-run gs run i lent ∙ either_no _ _ fails

@@ -4,4 +4,5 @@ pub mod Meaning
 pub mod Orders
 pub mod Privileges
 pub mod RightSets
+pub mod Runs
 pub mod Walks

@@ -55,8 +55,8 @@ fn some_gives<R: Reach>(
     ensures answer { result ≡ list_any (gives (R.relation reach.old).below right element class) grantee.now.grants }
     ensures same { R.relation reach.new ≡ R.relation reach.old }
 {
-    for i in 0..grantee.grants.len() {
-        if gives(reach, *grantee.grants.at(i), right, element, class) {
+    for grant in grantee.grants.as_slice() {
+        if gives(reach, *grant, right, element, class) {
             return true;
         }
     }
@@ -85,6 +85,28 @@ fn is_met_by<R: Reach>(
     reach.contains(user, grantee.ua) && some_gives(reach, grantee, right, element, class)
 }
 
+/// Whether some association of some of these user attributes gives the user the right.
+fn is_met_in<R: Reach>(
+    reach: &mut R,
+    grantees: &[Grantee],
+    user: ElementId,
+    right: u8,
+    element: ElementId,
+    class: ElementId,
+) -> bool
+    requires right { right < 64 }
+    requires asked { IsAskedIn (R.relation reach.old) grantees.now user element class }
+    ensures answer { result ≡ is_met (R.relation reach.old).below (associations_of grantees.now) user right element class }
+    ensures same { R.relation reach.new ≡ R.relation reach.old }
+{
+    for grantee in grantees {
+        if is_met_by(reach, grantee, user, right, element, class) {
+            return true;
+        }
+    }
+    false
+}
+
 /// Whether some association gives the user the right on the element in the class.
 fn is_met<R: Reach, G: Grants>(
     reach: &mut R,
@@ -99,10 +121,14 @@ fn is_met<R: Reach, G: Grants>(
     ensures answer { result ≡ is_met (R.relation reach.old).below (associations_of (G.grantees grants.now)) user right element class }
     ensures same { R.relation reach.new ≡ R.relation reach.old }
 {
-    for i in 0..grants.grantee_count() {
-        if is_met_by(reach, grants.grantee(i), user, right, element, class) {
+    let count = grants.grantee_count();
+    let mut start = 0;
+    while start < count {
+        let run = grants.grantees_from(start);
+        if is_met_in(reach, run, user, right, element, class) {
             return true;
         }
+        start += run.len();
     }
     false
 }

@@ -1,6 +1,6 @@
 //! Which prohibition denies a right, over whatever keeps containment and prohibitions.
 
-ghost use Rattle.std.specs.Prelude.{◌≡◌, ◌<◌, not};
+ghost use Rattle.std.specs.Prelude.{◌≡◌, ◌<◌, not, length, IfSome};
 ghost use Rattle.std.specs.List.{list_any, list_all};
 ghost use Rattle.pm_model.specs.Decision.{range_by, applies_by, forbids, first_applying};
 ghost use Rattle.pm_decide.specs.Live.{IsLive, AllLive, NamesLive, BarsLive};
@@ -14,8 +14,8 @@ fn in_each<R: Reach>(reach: &mut R, places: &PlaceList, element: ElementId) -> b
     ensures answer { result ≡ list_all ((R.relation reach.old).below element) places.now }
     ensures same { R.relation reach.new ≡ R.relation reach.old }
 {
-    for i in 0..places.len() {
-        if !reach.contains(element, *places.at(i)) {
+    for place in places.as_slice() {
+        if !reach.contains(element, *place) {
             return false;
         }
     }
@@ -29,8 +29,8 @@ fn in_some<R: Reach>(reach: &mut R, places: &PlaceList, element: ElementId) -> b
     ensures answer { result ≡ list_any ((R.relation reach.old).below element) places.now }
     ensures same { R.relation reach.new ≡ R.relation reach.old }
 {
-    for i in 0..places.len() {
-        if reach.contains(element, *places.at(i)) {
+    for place in places.as_slice() {
+        if reach.contains(element, *place) {
             return true;
         }
     }
@@ -44,8 +44,8 @@ fn out_of_some<R: Reach>(reach: &mut R, places: &PlaceList, element: ElementId) 
     ensures answer { result ≡ list_any (λ a. not ((R.relation reach.old).below element a)) places.now }
     ensures same { R.relation reach.new ≡ R.relation reach.old }
 {
-    for i in 0..places.len() {
-        if !reach.contains(element, *places.at(i)) {
+    for place in places.as_slice() {
+        if !reach.contains(element, *place) {
             return true;
         }
     }
@@ -109,6 +109,31 @@ fn forbids<R: Reach>(
     bar.rights.has(right) && applies(reach, bar, user, process) && in_range(reach, bar, element)
 }
 
+/// The place among these prohibitions, from 0, of the first that denies the right.
+fn first_among<R: Reach>(
+    reach: &mut R,
+    bars: &[Prohibition],
+    user: ElementId,
+    process: Option<u32>,
+    right: u8,
+    element: ElementId,
+) -> Option<usize>
+    requires bars { BarsLive (R.relation reach.old) bars.now }
+    requires user { IsLive (R.relation reach.old) user }
+    requires right { right < 64 }
+    requires element { IsLive (R.relation reach.old) element }
+    ensures answer { result ≡ first_applying (R.relation reach.old).below bars.now user process right element }
+    ensures within { IfSome result (λ i. i < length bars.now) }
+    ensures same { R.relation reach.new ≡ R.relation reach.old }
+{
+    for (i, bar) in bars.iter().enumerate() {
+        if forbids(reach, bar, user, process, right, element) {
+            return Some(i);
+        }
+    }
+    None
+}
+
 /// The place, in order of creation from 0, of the first prohibition that denies the right on the
 /// element to the user or, where there is one, to the process; None where none does. A prohibition
 /// denies the rights that it has, to the user, the users in the user attribute or the process that is
@@ -132,10 +157,14 @@ pub fn first_applying<R: Reach, B: Bars>(
     ensures answer { result ≡ first_applying (R.relation reach.old).below (B.prohibitions bars.now) user process right element }
     ensures same { R.relation reach.new ≡ R.relation reach.old }
 {
-    for i in 0..bars.len() {
-        if forbids(reach, bars.at(i), user, process, right, element) {
-            return Some(i as u32);
+    let count = bars.len();
+    let mut start = 0;
+    while start < count {
+        let run = bars.prohibitions_from(start);
+        if let Some(i) = first_among(reach, run, user, process, right, element) {
+            return Some((start + i) as u32);
         }
+        start += run.len();
     }
     None
 }

@@ -64,8 +64,8 @@ fn rights_of_grants<R: Reach>(
     ensures same { R.relation reach.new ≡ R.relation reach.old }
 {
     let mut rights = NO_RIGHTS;
-    for i in 0..grantee.grants.len() {
-        let more = rights_of_grant(reach, *grantee.grants.at(i), element, class);
+    for grant in grantee.grants.as_slice() {
+        let more = rights_of_grant(reach, *grant, element, class);
         rights = rights.union(more);
     }
     rights
@@ -93,6 +93,26 @@ fn rights_by<R: Reach>(
     rights_of_grants(reach, grantee, element, class)
 }
 
+/// The rights that the associations of these user attributes give the user.
+fn rights_met_in<R: Reach>(
+    reach: &mut R,
+    grantees: &[Grantee],
+    user: ElementId,
+    element: ElementId,
+    class: ElementId,
+) -> Rights
+    requires asked { IsAskedIn (R.relation reach.old) grantees.now user element class }
+    ensures answer { IsSetOf (λ r. is_met (R.relation reach.old).below (associations_of grantees.now) user r element class) result }
+    ensures same { R.relation reach.new ≡ R.relation reach.old }
+{
+    let mut rights = NO_RIGHTS;
+    for grantee in grantees {
+        let more = rights_by(reach, grantee, user, element, class);
+        rights = rights.union(more);
+    }
+    rights
+}
+
 /// The rights that the associations give the user on the element in the class.
 fn rights_met<R: Reach, G: Grants>(
     reach: &mut R,
@@ -105,10 +125,14 @@ fn rights_met<R: Reach, G: Grants>(
     ensures answer { IsSetOf (λ r. is_met (R.relation reach.old).below (associations_of (G.grantees grants.now)) user r element class) result }
     ensures same { R.relation reach.new ≡ R.relation reach.old }
 {
+    let count = grants.grantee_count();
     let mut rights = NO_RIGHTS;
-    for i in 0..grants.grantee_count() {
-        let more = rights_by(reach, grants.grantee(i), user, element, class);
+    let mut start = 0;
+    while start < count {
+        let run = grants.grantees_from(start);
+        let more = rights_met_in(reach, run, user, element, class);
         rights = rights.union(more);
+        start += run.len();
     }
     rights
 }
@@ -174,6 +198,27 @@ fn rights_barred<R: Reach>(
     NO_RIGHTS
 }
 
+/// The rights on the element that these prohibitions deny the user in any process.
+fn rights_denied_by<R: Reach>(
+    reach: &mut R,
+    bars: &[Prohibition],
+    user: ElementId,
+    element: ElementId,
+) -> Rights
+    requires bars { BarsLive (R.relation reach.old) bars.now }
+    requires user { IsLive (R.relation reach.old) user }
+    requires element { IsLive (R.relation reach.old) element }
+    ensures answer { IsSetOf (λ r. list_any (forbids (R.relation reach.old).below user None r element) bars.now) result }
+    ensures same { R.relation reach.new ≡ R.relation reach.old }
+{
+    let mut rights = NO_RIGHTS;
+    for bar in bars {
+        let more = rights_barred(reach, bar, user, element);
+        rights = rights.union(more);
+    }
+    rights
+}
+
 /// The rights on the element that the prohibitions deny the user in any process.
 fn rights_denied<R: Reach, B: Bars>(
     reach: &mut R,
@@ -187,10 +232,14 @@ fn rights_denied<R: Reach, B: Bars>(
     ensures answer { IsSetOf (λ r. list_any (forbids (R.relation reach.old).below user None r element) (B.prohibitions bars.now)) result }
     ensures same { R.relation reach.new ≡ R.relation reach.old }
 {
+    let count = bars.len();
     let mut rights = NO_RIGHTS;
-    for i in 0..bars.len() {
-        let more = rights_barred(reach, bars.at(i), user, element);
+    let mut start = 0;
+    while start < count {
+        let run = bars.prohibitions_from(start);
+        let more = rights_denied_by(reach, run, user, element);
         rights = rights.union(more);
+        start += run.len();
     }
     rights
 }

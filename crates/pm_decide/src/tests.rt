@@ -1,6 +1,6 @@
 //! Decisions over small policies, with answers worked out by hand.
 
-ghost use Rattle.std.specs.Prelude.{◌≡◌, ◌≤◌, length};
+ghost use Rattle.std.specs.Prelude.{◌≡◌, ◌<◌, ◌≤◌, length, take, drop};
 ghost use Rattle.pm_model.specs.Containment.{contained};
 
 use crate::{Verdict, decide, privilege, rights_of};
@@ -239,6 +239,16 @@ impl Reach for Pairs {
     }
 }
 
+// The items from a place on: two where there are as many, so that walks meet several runs.
+fn one_or_two_from<T>(items: &[T], i: usize) -> &[T]
+    requires { i < length items.now }
+    ensures items { result.now ≡ take (length result.now) (drop i items.now) }
+    ensures some { 0 < length result.now }
+{
+    let rest = &items[i..];
+    if rest.len() < 2 { rest } else { &rest[..2] }
+}
+
 #[derive(Drop)]
 struct Associations(ItemList<Grantee>);
 
@@ -249,8 +259,8 @@ impl Grants for Associations {
         self.0.len()
     }
 
-    fn grantee(&self, i: usize) -> &Grantee {
-        self.0.at(i)
+    fn grantees_from(&self, i: usize) -> &[Grantee] {
+        one_or_two_from(self.0.as_slice(), i)
     }
 }
 
@@ -269,6 +279,10 @@ impl Bars for Prohibitions {
 
     fn at(&self, i: usize) -> &Prohibition {
         self.list.at(i)
+    }
+
+    fn prohibitions_from(&self, i: usize) -> &[Prohibition] {
+        one_or_two_from(self.list.as_slice(), i)
     }
 }
 

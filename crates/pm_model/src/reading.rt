@@ -1,6 +1,6 @@
 //! What a decision asks of a state, as traits.
 
-ghost use Rattle.std.specs.Prelude.{◌≡◌, ℕ, Bool, ◌<◌, ◌≤◌, List, length, slice_get, Some, IsTrue};
+ghost use Rattle.std.specs.Prelude.{◌≡◌, ℕ, Bool, ◌<◌, ◌≤◌, List, length, slice_get, take, drop, Some, IsTrue};
 ghost use Rattle.pm_model.specs.Containment.{Relation, containers};
 ghost use Rattle.pm_model.specs.declared.rights.Grantee.{Grantee};
 ghost use Rattle.pm_model.specs.declared.prohibitions.Prohibition.{Prohibition};
@@ -54,10 +54,12 @@ pub trait Grants {
     fn grantee_count(&self) -> usize
         ensures { result ≡ length (grantees self.now) };
 
-    /// The user attribute at a place below the count, with its associations.
-    fn grantee(&self, i: usize) -> &Grantee
+    /// The user attributes from a place below the count on that stand together in memory, each with
+    /// its associations. So a walk over all asks where they stand as seldom as can be.
+    fn grantees_from(&self, i: usize) -> &[Grantee]
         requires { i < length (grantees self.now) }
-        ensures { slice_get (grantees self.now) i ≡ Some result.now };
+        ensures items { result.now ≡ take (length result.now) (drop i (grantees self.now)) }
+        ensures some { 0 < length result.now };
 }
 
 /// The prohibitions, in order of creation: at most 4,096.
@@ -74,6 +76,12 @@ pub trait Bars {
     fn at(&self, i: usize) -> &Prohibition
         requires { i < length (prohibitions self.now) }
         ensures { slice_get (prohibitions self.now) i ≡ Some result.now };
+
+    /// The prohibitions from a place below the number on that stand together in memory.
+    fn prohibitions_from(&self, i: usize) -> &[Prohibition]
+        requires { i < length (prohibitions self.now) }
+        ensures items { result.now ≡ take (length result.now) (drop i (prohibitions self.now)) }
+        ensures some { 0 < length result.now };
 }
 
 /// The names of live elements.

@@ -1,14 +1,20 @@
--- The prohibition at i denies, or the answer is that of those after it.
-use Rattle.std.proofs.Common.{◌∙◌}
-use Rattle.pm_decide.proofs.Walks.{place-yes, place-no}
+-- A prohibition of the run denies, or the answer is that of those behind the run.
+use Rattle.std.proofs.Common.{arith, ◌∙◌}
+use Rattle.pm_decide.proofs.Runs.{place-in, place-past, run-within}
 use Rattle.pm_decide.proofs.prohibitions.first_applying.Goals as goal
 
-pub returns-then-forbids-clause-answer : goal.returns-then-forbids-clause-answer
-returns-then-forbids-clause-answer g c =
-    place-yes _ _ c.loop-i.i c.at.result.now c.loop-i.invariant.rest c.at.ensures (rw c.loop-i.invariant.same at c.if-forbids.ensures.answer)
+pub returns-in-Some-clause-answer : goal.returns-in-Some-clause-answer
+returns-in-Some-clause-answer g c =
+    place-in _ _ c.prohibitions_from-run.result.now c.loop-start.start c.prohibitions_from-run.ensures.items c.loop-start.invariant.rest
+    c.in-Some.i (rw c.loop-start.invariant.same at c.in-Some.ensures.answer)
 
-pub loop-i-preserved : goal.loop-i-preserved
-loop-i-preserved g c = record {
-  same = c.forbids.ensures.same ∙ c.loop-i.invariant.same;
-  rest = place-no _ _ c.loop-i.i c.at.result.now c.loop-i.invariant.rest c.at.ensures (rw c.loop-i.invariant.same at c.if-forbids.ensures.answer);
-}
+pub loop-start-preserved : goal.loop-start-preserved
+loop-start-preserved g c =
+    let run = c.prohibitions_from-run.result.now in
+    let lent = c.prohibitions_from-run.ensures.items in
+    record {
+      within = run-within _ run c.loop-start.start lent (omega arith);
+      same = c.first_among.ensures.same ∙ c.loop-start.invariant.same;
+      rest = place-past _ _ run c.loop-start.start lent c.loop-start.invariant.rest
+          (rw c.loop-start.invariant.same at c.in_default.ensures.answer);
+    }

@@ -1,14 +1,19 @@
--- The element isn't in the place at i, or the answer is that of those after it.
-use Rattle.std.proofs.Common.{◌∙◌}
+-- The element isn't in the place at the index, or the answer is that of those after it.
+use Rattle.std.proofs.Common.{refl, ◌∙◌}
+use Rattle.std.proofs.lemmas.Option.{slice_get_read}
 use Rattle.pm_decide.proofs.Walks.{all-yes, all-no}
 use Rattle.pm_decide.proofs.prohibitions.in_each.Goals as goal
 
 pub returns-then-not-contains-clause-answer : goal.returns-then-not-contains-clause-answer
 returns-then-not-contains-clause-answer g c =
-    all-no _ _ c.loop-i.i c.at.result.now c.loop-i.invariant.rest c.at.ensures (rw c.loop-i.invariant.same at c.if-not-contains.ensures.answer)
+    all-no _ _ c.loop-place.place-index c.place-item.result c.loop-place.invariant.rest
+    (rw c.as_slice-place-items.ensures at (slice_get_read _ _ _ _ refl c.loop-place-test.true c.place-item.is))
+    (rw c.loop-place.invariant.same at c.if-not-contains.ensures.answer)
 
-pub loop-i-preserved : goal.loop-i-preserved
-loop-i-preserved g c = record {
-  same = c.contains.ensures.same ∙ c.loop-i.invariant.same;
-  rest = all-yes _ _ c.loop-i.i c.at.result.now c.loop-i.invariant.rest c.at.ensures (rw c.loop-i.invariant.same at c.if-not-contains.ensures.answer);
+pub loop-place-preserved : goal.loop-place-preserved
+loop-place-preserved g c = record {
+  same = c.contains.ensures.same ∙ c.loop-place.invariant.same;
+  rest = all-yes _ _ c.loop-place.place-index c.place-item.result c.loop-place.invariant.rest
+      (rw c.as_slice-place-items.ensures at (slice_get_read _ _ _ _ refl c.loop-place-test.true c.place-item.is))
+      (rw c.loop-place.invariant.same at c.if-not-contains.ensures.answer);
 }
