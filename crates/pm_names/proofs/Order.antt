@@ -1,5 +1,5 @@
 -- The order of names, and what a change of one leaves.
-use Rattle.std.proofs.Common.{◌≡◌, ℕ, zero, suc, ◌+◌, ◌≤◌, ◌<◌, Bool, true, false, List, [], ◌∷◌, length, insert, remove, slice_get, Option, Some, None, Result, Ok, Err, OnOk, OnErr, subst, refl, sym, ap, ◌∙◌, arith, cond, bytes_eq, if◌then◌else◌}
+use Rattle.std.proofs.Common.{◌≡◌, ℕ, zero, suc, ◌<◌, Bool, true, false, List, [], ◌∷◌, length, insert, remove, slice_get, Some, None, Result, Ok, Err, OnOk, OnErr, subst, refl, sym, ap, ◌∙◌, arith, cond, bytes_eq}
 use Rattle.std.specs.Map.{lookup}
 use Rattle.std.specs.declared.cmp.Ordering.{Ordering}
 use Rattle.std.specs.declared.cmp.Ordering.TheVariants.{Less, Equal, Greater}

@@ -1,6 +1,6 @@
 //! The names.
 
-ghost use Rattle.std.specs.Prelude.{◌≡◌, ◌<◌, [], true, None, Some, IfOk, OnOk, OnErr, IsOk, IsSome, bytes_eq};
+ghost use Rattle.std.specs.Prelude.{◌≡◌, [], true, false, None, Some, IfOk, OnOk, OnErr, IsOk, bytes_eq};
 ghost use Rattle.std.specs.Map.{lookup};
 ghost use Rattle.pm_names.specs.Rising.{Renames};
 
@@ -14,21 +14,20 @@ use std::marker::Model;
 const ROOM: usize = 64;
 
 /// Names that lead to numbers. Contracts see the names with their numbers, and whether the list of
-/// them stands alone.
+/// them has shared no page since it was made: then no change but a new name takes memory.
 #[derive(Drop)]
 pub struct Names {
     names: PageList<(Name, ElementId)>,
 }
 
 impl Model for Names {
-    ghost use Rattle.std.specs.Prelude.{List, ℕ};
-    ghost use Rattle.pm_pages.specs.Paged.{Paged};
+    ghost use Rattle.pm_names.specs.Named.{Named};
 
-    ghost Value = { Paged (List ℕ × ℕ) };
+    ghost Value = { Named };
 
     ghost use Rattle.pm_names.specs.Rising.{Rise};
 
-    ghost view = { λ n. n.names };
+    ghost view = { λ n. record { items = n.names.items; alone = n.names.alone } };
 
     ghost invariant = { λ n. Rise n.names.items };
 }
@@ -57,7 +56,7 @@ impl Names {
         requires { lookup (bytes_eq name) self.old.items ≡ None }
         ensures ok { OnOk result (Renames name (Some id) self.old.items self.new.items) }
         ensures err { OnErr result (self.new ≡ self.old) }
-        ensures stays { self.old.alone ≡ true → self.new.alone ≡ true }
+        ensures alone { self.new.alone ≡ self.old.alone }
     {
         let i = place_of(&self.names, &name);
         self.names.insert(i, (name, id))
@@ -67,36 +66,29 @@ impl Names {
     pub fn remove(&mut self, name: &Name) -> Result<(), Memory>
         ensures ok { OnOk result (Renames name.now None self.old.items self.new.items) }
         ensures err { OnErr result (self.new ≡ self.old) }
-        ensures alone { self.old.alone ≡ true → IsOk result }
-        ensures stays { self.old.alone ≡ true → self.new.alone ≡ true }
+        ensures sure { self.old.alone ≡ true → IsOk result }
+        ensures alone { self.new.alone ≡ self.old.alone }
     {
         let i = place_of(&self.names, name);
         if is_named_at(&self.names, i, name) {
-            let _gone = self.names.remove(i)?;
+            self.names.own_at(i)?;
+            let _gone = self.names.remove(i);
         }
         Ok(())
     }
 
-    /// Lets copies share the names.
+    /// Lets copies share the names. On Memory some pages may be shared.
     pub fn share(&mut self) -> Result<(), Memory>
-        ensures { self.new.items ≡ self.old.items }
+        ensures items { self.new.items ≡ self.old.items }
+        ensures alone { self.new.alone ≡ false }
     {
         self.names.share()
     }
 
-    /// Lets the names stand alone. It takes no memory where they do already.
-    pub fn own(&mut self) -> Result<(), Memory>
-        ensures items { self.new.items ≡ self.old.items }
-        ensures ok { OnOk result (self.new.alone ≡ true) }
-        ensures err { OnErr result (self.new ≡ self.old) }
-        ensures alone { self.old.alone ≡ true → IsOk result }
-    {
-        self.names.own()
-    }
-
     /// The same names once more. What is shared is not copied.
     pub fn copy(&self) -> Result<Names, Memory>
-        ensures { IfOk result (λ same. same.items ≡ self.now.items) }
+        ensures items { IfOk result (λ same. same.items ≡ self.now.items) }
+        ensures alone { IfOk result (λ same. same.alone ≡ false) }
     {
         Ok(Names {
             names: self.names.copy()?,

@@ -1,10 +1,9 @@
 -- Pages that are written, put in and taken out.
-use Rattle.std.proofs.Common.{◌≡◌, ◌==◌, ◌<◌, ◌≤◌, ℕ, zero, suc, ◌+◌, ◌-◌, Bool, true, false, List, [], ◌∷◌, ◌++◌, length, get_or, set, map, take, insert, remove, refl, sym, ap, subst, ◌∙◌, arith, Result, Ok, Err, OnOk, OnErr, append_assoc, append-nil}
+use Rattle.std.proofs.Common.{◌≡◌, ◌==◌, ◌<◌, ◌≤◌, ℕ, zero, suc, ◌+◌, ◌-◌, Bool, true, false, List, [], ◌∷◌, ◌++◌, length, get_or, set, map, take, drop, insert, remove, refl, sym, ap, subst, ◌∙◌, arith, Result, Ok, Err, OnOk, OnErr, append_assoc, append-nil}
 use Rattle.std.specs.List.{flat_map, list_all}
 use Rattle.std.proofs.lemmas.List.Edits.{insert-append_left, insert-append_right, insert_end, length-remove}
 use Rattle.std.proofs.lemmas.Bool.{eqb-true}
 use Rattle.pm_pages.specs.Listed.{piece, IsSpot, edited, items_of, is_own, listed, all_own, without_empty, IsSplit}
-use Rattle.pm_pages.specs.Paged.{Paged}
 use Rattle.pm_pages.specs.declared.pages.Page.{Page}
 use Rattle.pm_pages.specs.declared.pages.Page.TheVariants.{Own}
 use Rattle.pm_pages.proofs.Spots.{piece_read}
@@ -19,6 +18,25 @@ module _ {X : Type 0} where
   map-edited f g e k [] = refl
   map-edited f g e zero (p ∷ ps) = ap (λ x. x ∷ map f ps) (e p)
   map-edited f g e (suc k) (p ∷ ps) = ap (λ xs. f p ∷ xs) (map-edited f g e k ps)
+
+  -- two changes that are the same at page k
+  pub edited-as : (g h : X → X) (ps : List X) (k : ℕ) → ((x : X) → x ≡ get_or ps k x → g x ≡ h x) → edited g k ps ≡ edited h k ps
+  edited-as g h [] k e = refl
+  edited-as g h (p ∷ ps) zero e = ap (λ x. x ∷ ps) (e p refl)
+  edited-as g h (p ∷ ps) (suc k) e = ap (λ xs. p ∷ xs) (edited-as g h ps k e)
+
+  pub edited-none : (h : X → X) (ps : List X) (k : ℕ) → ((x : X) → x ≡ get_or ps k x → x ≡ h x) → ps ≡ edited h k ps
+  edited-none h [] k e = refl
+  edited-none h (p ∷ ps) zero e = ap (λ x. x ∷ ps) (e p refl)
+  edited-none h (p ∷ ps) (suc k) e = ap (λ xs. p ∷ xs) (edited-none h ps k e)
+
+  -- one more turn of a loop that changes each item
+  pub edited-front : (g : X → X) (xs : List X) (k : ℕ) → k < length xs → edited g k (map g (take k xs) ++ drop k xs) ≡ map g (take (k + 1) xs) ++ drop (k + 1) xs
+  edited-front g [] k h = absurd (omega (arith, h))
+  edited-front g (x ∷ xs) zero h = refl
+  edited-front g (x ∷ xs) (suc k) h =
+      let next : suc k + 1 ≡ suc (k + 1) = omega arith in
+      rw next (ap (λ ys. g x ∷ ys) (edited-front g xs k (omega (arith, h))))
 
   pub map-set : {A : Type 0} (f : X → A) (ps : List X) (k : ℕ) (x y : X) → k < length ps → x ≡ get_or ps k x → f y ≡ f x → map f (set ps k y) ≡ map f ps
   map-set f [] k x y h is e = refl
@@ -39,14 +57,9 @@ module _ {X : Type 0} where
   length-edited g (suc k) (p ∷ ps) = ap suc (length-edited g k ps)
 
 module _ {X : Type 0} (test : X → Bool) where
-  pub all_read : (ps : List X) (k : ℕ) (x : X) → k < length ps → x ≡ get_or ps k x → list_all test ps ≡ true → test x ≡ true
-  all_read [] k x h is all = absurd (omega (arith, h))
-  all_read (p ∷ ps) zero x h is all = rw is (grind (arith, all))
-  all_read (p ∷ ps) (suc k) x h is all = all_read ps k x (omega (arith, h)) is (grind (arith, all))
-
-  pub all-edited : (g : X → X) → ((p : X) → test (g p) ≡ true) → (k : ℕ) (ps : List X) → list_all test ps ≡ true → list_all test (edited g k ps) ≡ true
+  pub all-edited : (g : X → X) → ((p : X) → test p ≡ true → test (g p) ≡ true) → (k : ℕ) (ps : List X) → list_all test ps ≡ true → list_all test (edited g k ps) ≡ true
   all-edited g e k [] h = h
-  all-edited g e zero (p ∷ ps) h = grind (arith, e p, h)
+  all-edited g e zero (p ∷ ps) h = let here : test p ≡ true = grind (arith, h) in grind (arith, e p here, h)
   all-edited g e (suc k) (p ∷ ps) h = grind (arith, all-edited g e k ps, h)
 
   pub all-split : (ps : List X) (k : ℕ) (a b : X) → test a ≡ true → test b ≡ true → list_all test ps ≡ true → list_all test (set (insert ps (suc k) b) k a) ≡ true
@@ -90,26 +103,24 @@ module _ {X A : Type 0} (f : X → List A) where
   spot-split (p ∷ ps) i (suc k) j x a b s e =
       ap (λ xs. f p ++ xs) (spot-split ps (i - length (f p)) k j x a b s.1 e) ∙ sym (insert-append_right (f p) (flat_map f ps) (length (f p)) i x refl s.0)
 
-no_items : {A : Type 0} (xs : List A) → length xs ≡ 0 → xs ≡ []
+pub no_items : {A : Type 0} (xs : List A) → length xs ≡ 0 → xs ≡ []
 no_items [] e = refl
 no_items (x ∷ xs) e = absurd (omega (arith, e))
 
 module _ {T : Type 0} where
-  abbrev paged : List T → Bool → Paged T
-  paged xs a = record { items = xs; alone = a }
-
   pub remove-empty : (ps : List (Page T)) (k : ℕ) (x : Page T) → k < length ps → x ≡ get_or ps k x → (length (items_of x) == 0) ≡ true → remove ps k ≡ without_empty k ps
   remove-empty ps k x h is none = rw (piece_read items_of ps k x h is, none) refl
 
   pub keep-full : (ps : List (Page T)) (k : ℕ) (x : Page T) → k < length ps → x ≡ get_or ps k x → (length (items_of x) == 0) ≡ false → ps ≡ without_empty k ps
   keep-full ps k x h is some = rw (piece_read items_of ps k x h is, some) refl
 
-  emptied : (b : Bool) (ps : List (Page T)) (k : ℕ) → (length (piece items_of ps k) == 0) ≡ b → k < length ps → listed (without_empty k ps) ≡ listed ps
-  emptied true ps k is h = rw is (dropped-empty items_of ps k h (no_items (piece items_of ps k) (eqb-true _ 0 is)))
-  emptied false ps k is h = rw is refl
+  emptied : {A : Type 0} (f : Page T → List A) (b : Bool) (ps : List (Page T)) (k : ℕ) → (length (piece items_of ps k) == 0) ≡ b → length (piece f ps k) ≡ length (piece items_of ps k) → k < length ps → flat_map f (without_empty k ps) ≡ flat_map f ps
+  emptied f true ps k is l h = rw is (dropped-empty f ps k h (no_items (piece f ps k) (l ∙ eqb-true _ 0 is)))
+  emptied f false ps k is l h = rw is refl
 
-  pub listed-emptied : (ps : List (Page T)) (k : ℕ) → k < length ps → listed (without_empty k ps) ≡ listed ps
-  listed-emptied ps k h = emptied (length (piece items_of ps k) == 0) ps k refl h
+  -- a page without items has nothing to tell of them
+  pub flat-emptied : {A : Type 0} (f : Page T → List A) (ps : List (Page T)) (k : ℕ) → length (piece f ps k) ≡ length (piece items_of ps k) → k < length ps → flat_map f (without_empty k ps) ≡ flat_map f ps
+  flat-emptied f ps k l h = emptied f (length (piece items_of ps k) == 0) ps k refl l h
 
   fewer : (b : Bool) (ps : List (Page T)) (k : ℕ) → (length (piece items_of ps k) == 0) ≡ b → k < length ps → length (without_empty k ps) ≤ length ps
   fewer true ps k is h = let l = length-remove ps k h in rw is (omega (arith, l))
@@ -135,6 +146,3 @@ module _ {T : Type 0} where
       let next : k + 1 ≡ suc k = omega arith in
       rw (split.pages, next) (all-split is_own old k (Own split.head) (Own split.tail) refl refl all)
   own-split (Err e) old new k j x split same all = rw same all
-
-  pub same-paged : (xs ys : List T) (a b : Bool) → xs ≡ ys → a ≡ b → paged xs a ≡ paged ys b
-  same-paged xs ys a b e d = rw (e, d) refl

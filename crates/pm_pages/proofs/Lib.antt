@@ -1,2 +1,4 @@
 pub mod Spots
 pub mod Changed
+pub mod Owning
+pub mod Passing

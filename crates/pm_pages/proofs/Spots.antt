@@ -7,12 +7,12 @@ use Rattle.std.proofs.Math.Seq.{take-append_seam}
 use Rattle.std.proofs.lemmas.List.Edits.{insert-append_left, insert-append_right, remove-append_left, remove-append_right}
 use Rattle.pm_pages.specs.Listed.{starts_from, piece, IsSpot, IsStretch, edited}
 
-get-left : {A : Type 0} (xs ys : List A) (i : ℕ) → i < length xs → slice_get (xs ++ ys) i ≡ slice_get xs i
+pub get-left : {A : Type 0} (xs ys : List A) (i : ℕ) → i < length xs → slice_get (xs ++ ys) i ≡ slice_get xs i
 get-left [] ys i h = absurd (omega (arith, h))
 get-left (x ∷ xs) ys zero h = refl
 get-left (x ∷ xs) ys (suc i) h = get-left xs ys i (omega (arith, h))
 
-get-right : {A : Type 0} (xs ys : List A) (i : ℕ) → length xs ≤ i → slice_get (xs ++ ys) i ≡ slice_get ys (i - length xs)
+pub get-right : {A : Type 0} (xs ys : List A) (i : ℕ) → length xs ≤ i → slice_get (xs ++ ys) i ≡ slice_get ys (i - length xs)
 get-right [] ys i h = let e : i ≡ i - 0 = omega arith in ap (slice_get ys) e
 get-right (x ∷ xs) ys zero h = absurd (omega (arith, h))
 get-right (x ∷ xs) ys (suc i) h = get-right xs ys i (omega (arith, h)) ∙ (let e : i - length xs ≡ suc i - suc (length xs) = omega arith in ap (slice_get ys) e)
@@ -60,20 +60,20 @@ module _ {X A : Type 0} (f : X → List A) where
   module _ (g : X → X) (change : List A → ℕ → List A)
       (left : (xs ys : List A) (i : ℕ) → i < length xs → change (xs ++ ys) i ≡ change xs i ++ ys)
       (right : (xs ys : List A) (n i : ℕ) → length xs ≡ n → n ≤ i → change (xs ++ ys) i ≡ xs ++ change ys (i - n)) where
-    spot-changed : (ps : List X) (i k j : ℕ) → IsSpot f ps i k j → ((p : X) → f (g p) ≡ change (f p) j) → flat_map f (edited g k ps) ≡ change (flat_map f ps) i
+    spot-changed : (ps : List X) (i k j : ℕ) → IsSpot f ps i k j → ((p : X) → p ≡ get_or ps k p → f (g p) ≡ change (f p) j) → flat_map f (edited g k ps) ≡ change (flat_map f ps) i
     spot-changed [] i k j s e = absurd s
-    spot-changed (p ∷ ps) i zero j s e = rw s.0 (ap (λ xs. xs ++ flat_map f ps) (e p) ∙ sym (left (f p) (flat_map f ps) j s.1))
+    spot-changed (p ∷ ps) i zero j s e = rw s.0 (ap (λ xs. xs ++ flat_map f ps) (e p refl) ∙ sym (left (f p) (flat_map f ps) j s.1))
     spot-changed (p ∷ ps) i (suc k) j s e =
         ap (λ xs. f p ++ xs) (spot-changed ps (i - length (f p)) k j s.1 e) ∙ sym (right (f p) (flat_map f ps) (length (f p)) i refl s.0)
 
-  pub spot-set : (g : X → X) (ps : List X) (i k j : ℕ) (x : A) → IsSpot f ps i k j → ((p : X) → f (g p) ≡ set (f p) j x) → flat_map f (edited g k ps) ≡ set (flat_map f ps) i x
+  pub spot-set : (g : X → X) (ps : List X) (i k j : ℕ) (x : A) → IsSpot f ps i k j → ((p : X) → p ≡ get_or ps k p → f (g p) ≡ set (f p) j x) → flat_map f (edited g k ps) ≡ set (flat_map f ps) i x
   spot-set g ps i k j x s e =
       spot-changed g (λ xs n. set xs n x) (λ xs ys n h. set-append_left xs ys n x h) (λ xs ys m n e h. set-append_right xs ys m n x e h) ps i k j s e
 
-  pub spot-removed : (g : X → X) (ps : List X) (i k j : ℕ) → IsSpot f ps i k j → ((p : X) → f (g p) ≡ remove (f p) j) → flat_map f (edited g k ps) ≡ remove (flat_map f ps) i
+  pub spot-removed : (g : X → X) (ps : List X) (i k j : ℕ) → IsSpot f ps i k j → ((p : X) → p ≡ get_or ps k p → f (g p) ≡ remove (f p) j) → flat_map f (edited g k ps) ≡ remove (flat_map f ps) i
   spot-removed g ps i k j s e = spot-changed g remove remove-append_left remove-append_right ps i k j s e
 
-  pub spot-inserted : (g : X → X) (ps : List X) (i k j : ℕ) (x : A) → IsSpot f ps i k j → ((p : X) → f (g p) ≡ insert (f p) j x) → flat_map f (edited g k ps) ≡ insert (flat_map f ps) i x
+  pub spot-inserted : (g : X → X) (ps : List X) (i k j : ℕ) (x : A) → IsSpot f ps i k j → ((p : X) → p ≡ get_or ps k p → f (g p) ≡ insert (f p) j x) → flat_map f (edited g k ps) ≡ insert (flat_map f ps) i x
   spot-inserted g ps i k j x s e =
       spot-changed g (λ xs n. insert xs n x) (λ xs ys n h. insert-append_left xs ys n x (omega (arith, h))) (λ xs ys m n e h. insert-append_right xs ys m n x e h) ps i k j s e
 

@@ -1,13 +1,14 @@
 -- How a list is kept.
-use Rattle.std.specs.Prelude.{◌≡◌, length}
+use Rattle.std.specs.Prelude.{◌≡◌, true, length}
 use Rattle.pm_pages.specs.declared.list.PageList.TheInside.{Inside}
 use Rattle.pm_pages.specs.Paged.{Paged}
-use Rattle.pm_pages.specs.Listed.{listed, all_own, starts_from, items_of}
+use Rattle.pm_pages.specs.Listed.{listed, marks, all_own, starts_from, items_of}
 
 module _ {T : Type 0} where
   abbrev pub paged_of : Inside T → Paged T
-  paged_of a = record { items = listed a.pages.items; alone = all_own a.pages.items }
+  paged_of a = record { items = listed a.pages.items; own = marks a.pages.items; alone = a.alone }
 
   pub record IsKept (a : Inside T) : Type 0 where
     pub starts : a.starts.items ≡ starts_from items_of 0 a.pages.items
     pub counted : a.count ≡ length (listed a.pages.items)
+    pub alone : a.alone ≡ true → all_own a.pages.items ≡ true

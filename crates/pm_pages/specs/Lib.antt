@@ -1,3 +1,4 @@
 pub mod Listed
 pub mod Paged
 pub mod Kept
+pub mod Lending

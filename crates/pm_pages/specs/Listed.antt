@@ -1,8 +1,8 @@
 -- Pages, and the items that stand in them.
-use Rattle.std.specs.Prelude.{◌≡◌, ◌<◌, ◌≤◌, ℕ, ◌+◌, ◌-◌, Bool, true, false, List, [], ◌∷◌, ◌++◌, length, insert, ◌==◌, if◌then◌else◌, slice_index, slice_set}
+use Rattle.std.specs.Prelude.{◌≡◌, ◌<◌, ◌≤◌, ℕ, ◌+◌, ◌-◌, Bool, true, false, List, [], ◌∷◌, ◌++◌, length, insert, map, filter, not, ◌||◌, ◌==◌, if◌then◌else◌, slice_index, slice_get, slice_set, Some}
 use Rattle.std.proofs.Common.{zero, suc}
 use Rattle.std.specs.Arc.{arc_value}
-use Rattle.std.specs.List.{flat_map, list_all, remove}
+use Rattle.std.specs.List.{flat_map, list_all, list_any, remove}
 use Rattle.pm_pages.specs.declared.pages.Page.{Page}
 use Rattle.pm_pages.specs.declared.pages.Page.TheVariants.{Own, Shared}
 
@@ -22,6 +22,28 @@ module _ {T : Type 0} where
   -- whether none of the pages is shared
   abbrev pub all_own : List (Page T) → Bool
   all_own pages = list_all is_own pages
+
+  -- for each item of a page, whether the page is its list's own
+  abbrev pub marks_of : Page T → List Bool
+  marks_of p = map (λ _. is_own p) (items_of p)
+
+  -- for each item of the pages
+  abbrev pub marks : List (Page T) → List Bool
+  marks pages = flat_map marks_of pages
+
+  -- item i stands in a page of the list's own
+  abbrev pub IsOwnAt : List (Page T) → ℕ → Type 0
+  IsOwnAt pages i = slice_get (marks pages) i ≡ Some true
+
+  -- what stood in a page of the list's own still does
+  abbrev pub KeepsOwn : List (Page T) → List (Page T) → Type 0
+  KeepsOwn old new = (i : ℕ) → IsOwnAt old i → IsOwnAt new i
+
+  -- whether page k is the list's own
+  abbrev pub own_page : List (Page T) → ℕ → Bool
+  own_page [] k = false
+  own_page (p ∷ ps) zero = is_own p
+  own_page (p ∷ ps) (suc k) = own_page ps k
 
 module _ {X A : Type 0} (f : X → List A) where
   -- where each page begins, if the first begins at n
@@ -60,6 +82,22 @@ module _ {T : Type 0} where
 
   abbrev pub owned : Page T → Page T
   owned p = Own (items_of p)
+
+  -- whether each item of the page that passes the test may be taken out
+  abbrev pub is_ready : (T → Bool) → Page T → Bool
+  is_ready test p = is_own p || not (list_any test (items_of p))
+
+  -- the page is the list's own where an item passes the test
+  abbrev pub owned_where : (T → Bool) → Page T → Page T
+  owned_where test p = if list_any test (items_of p) then owned p else p
+
+  -- an own page without the items that pass the test
+  abbrev pub spared : (T → Bool) → Page T → Page T
+  spared test (Own block) = Own (filter (λ x. not (test x)) block)
+  spared test (Shared a) = Shared a
+
+  abbrev pub has_items : Page T → Bool
+  has_items p = not (length (items_of p) == 0)
 
   -- page k in two, with one item more
   pub record IsSplit (k j : ℕ) (x : T) (old new : List (Page T)) : Type 0 where

@@ -1,13 +1,14 @@
 //! A block: some items, of which contracts see no room.
 
-ghost use Rattle.std.specs.Prelude.{◌≡◌, ◌<◌, ◌≤◌, [], ◌∷◌, Some, length, insert, slice_get, slice_set, OnOk, OnErr, IfOk};
+ghost use Rattle.std.specs.Prelude.{◌≡◌, ◌<◌, ◌≤◌, [], ◌∷◌, Bool, Some, length, insert, filter, not, slice_get, slice_set, OnOk, OnErr, IfOk};
 ghost use Rattle.std.specs.List.{remove};
+ghost use Rattle.std.specs.Borrow.{Lends, sem};
+ghost use Rattle.pm_pages.specs.Paged.{Decides};
 
 use crate::copies::CopyOf;
 use pm_model::Memory;
 use std::alloc::Global;
 use std::marker::Model;
-use std::mem::replace;
 
 #[derive(Drop)]
 pub(crate) struct Block<T> {
@@ -23,6 +24,8 @@ impl<T> Model for Block<T> {
 }
 
 impl<T> Block<T> {
+    ghost use Rattle.pm_pages.specs.contracts.blocks.Block.{the_row};
+
     /// The block without items, which takes no memory.
     pub(crate) fn empty(alloc: Global) -> Self
         ensures { result ≡ [] }
@@ -36,6 +39,15 @@ impl<T> Block<T> {
         ensures { result.now ≡ self.now }
     {
         self.items.as_slice()
+    }
+
+    /// The item at a place, to be written.
+    pub(crate) fn item_mut(&mut self, i: usize) -> &mut T
+        requires { i < length self.old }
+        ensures* writes_back { sem 𝓛 (Lends (the_row T.row) T.row self.entry result (slice_set self.old i)) }
+        ensures value { slice_get self.old i ≡ Some result.now }
+    {
+        &mut self.items[i]
     }
 }
 
@@ -70,13 +82,14 @@ impl<T: Drop> Block<T> {
         self.items.remove(i)
     }
 
-    /// Puts an item in the place of another, and answers the other.
-    pub(crate) fn replace(&mut self, i: usize, item: T) -> T
-        requires { i < length self.old }
-        ensures item { slice_get self.old i ≡ Some result }
-        ensures rest { self.new ≡ slice_set self.old i item }
+    /// Takes the items out that pass the test.
+    pub(crate) fn remove_where<F: Fn(&T) -> bool>(&mut self, test: &F)
+        ghost passes: { T → Bool }
+        requires callable { F.IsAlwaysCallable test.now }
+        requires decides { Decides F.Fn passes test.now }
+        ensures { self.new ≡ filter (λ x. not (passes x)) self.old }
     {
-        replace(&mut self.items[i], item)
+        self.items.retain(|item| !test(item));
     }
 }
 

@@ -13,6 +13,21 @@ pub trait CopyOf: Sized {
         ensures { IfOk result (λ same. same ≡ self.now) };
 }
 
+impl<T: CopyOf> CopyOf for Option<T> {
+    fn copied(&self) -> Result<Option<T>, Memory> {
+        match self {
+            Some(item) => Ok(Some(item.copied()?)),
+            None => Ok(None),
+        }
+    }
+}
+
+impl CopyOf for u32 {
+    fn copied(&self) -> Result<u32, Memory> {
+        Ok(*self)
+    }
+}
+
 impl CopyOf for ElementId {
     fn copied(&self) -> Result<ElementId, Memory> {
         Ok(*self)

@@ -1,13 +1,13 @@
 //! One item of a row of pages: found, written, put in and taken out, by its place in the list.
 
-ghost use Rattle.std.specs.Prelude.{◌≡◌, ℕ, ◌<◌, ◌≤◌, ◌+◌, ◌++◌, ◌∷◌, [], true, Some, length, insert, slice_get, slice_set, drop, OnOk, OnErr, IfOk, IsOk};
+ghost use Rattle.std.specs.Prelude.{◌≡◌, ℕ, ◌<◌, ◌≤◌, ◌+◌, ◌++◌, ◌∷◌, [], true, Some, length, insert, slice_get, drop, OnOk, OnErr};
 ghost use Rattle.std.specs.List.{remove};
-ghost use Rattle.pm_pages.specs.Listed.{items_of, listed, all_own, starts_from, piece, IsSpot};
+ghost use Rattle.pm_pages.specs.Listed.{items_of, listed, marks, IsOwnAt, KeepsOwn, own_page, all_own, starts_from, piece, IsSpot};
 
 use crate::copies::CopyOf;
 use crate::pages::{Page, items};
 use crate::places::page_of;
-use crate::rows::{drop_empty, insert_at, push_page, remove_at, replace_at, split_at};
+use crate::rows::{drop_empty, insert_at, push_page, remove_at, split_at};
 use pm_model::Memory;
 
 /// Where an item stands.
@@ -60,38 +60,20 @@ pub(crate) fn items_from<T>(pages: &[Page<T>], spot: Spot) -> &[T]
     from(items(page), spot.offset)
 }
 
-/// Puts an item in the place of item i, and answers that.
-pub(crate) fn set_item<T: CopyOf + Drop>(
-    pages: &mut Vec<Page<T>>,
-    spot: Spot,
-    item: T,
-) -> Result<T, Memory>
+/// Takes an item of an own page out. A page without items goes.
+pub(crate) fn take_item<T: Drop>(pages: &mut Vec<Page<T>>, spot: Spot) -> T
     requires page { spot.page < length pages.old.items }
     requires offset { spot.offset < length (piece items_of pages.old.items spot.page) }
-    ensures items { (i : ℕ) → IsSpot items_of pages.old.items i spot.page spot.offset → OnOk result (listed pages.new.items ≡ slice_set (listed pages.old.items) i item) }
-    ensures before { IfOk result (λ before. slice_get (piece items_of pages.old.items spot.page) spot.offset ≡ Some before) }
-    ensures starts { starts_from items_of 0 pages.new.items ≡ starts_from items_of 0 pages.old.items }
-    ensures err { OnErr result (pages.new.items ≡ pages.old.items) }
-    ensures alone { all_own pages.old.items ≡ true → IsOk result }
-    ensures stays { all_own pages.old.items ≡ true → all_own pages.new.items ≡ true }
-{
-    replace_at(pages, spot.page, spot.offset, item)
-}
-
-/// Takes an item out. A page without items goes.
-pub(crate) fn take_item<T: CopyOf + Drop>(pages: &mut Vec<Page<T>>, spot: Spot) -> Result<T, Memory>
-    requires page { spot.page < length pages.old.items }
-    requires offset { spot.offset < length (piece items_of pages.old.items spot.page) }
-    ensures items { (i : ℕ) → IsSpot items_of pages.old.items i spot.page spot.offset → OnOk result (listed pages.new.items ≡ remove (listed pages.old.items) i) }
-    ensures item { IfOk result (λ item. slice_get (piece items_of pages.old.items spot.page) spot.offset ≡ Some item) }
+    requires own { own_page pages.old.items spot.page ≡ true }
+    ensures item { slice_get (piece items_of pages.old.items spot.page) spot.offset ≡ Some result }
+    ensures items { (i : ℕ) → IsSpot items_of pages.old.items i spot.page spot.offset → listed pages.new.items ≡ remove (listed pages.old.items) i }
+    ensures marks { (i : ℕ) → IsSpot items_of pages.old.items i spot.page spot.offset → marks pages.new.items ≡ remove (marks pages.old.items) i }
     ensures pages { length pages.new.items ≤ length pages.old.items }
-    ensures err { OnErr result (pages.new.items ≡ pages.old.items) }
-    ensures alone { all_own pages.old.items ≡ true → IsOk result }
     ensures stays { all_own pages.old.items ≡ true → all_own pages.new.items ≡ true }
 {
-    let item = remove_at(pages, spot.page, spot.offset)?;
+    let item = remove_at(pages, spot.page, spot.offset);
     drop_empty(pages, spot.page);
-    Ok(item)
+    item
 }
 
 /// Puts an item at a spot. A page with no room becomes two.
@@ -104,6 +86,7 @@ pub(crate) fn put_item<T: CopyOf + Drop>(
     requires page { spot.page < length pages.old.items }
     requires offset { spot.offset < length (piece items_of pages.old.items spot.page) }
     ensures items { (i : ℕ) → IsSpot items_of pages.old.items i spot.page spot.offset → OnOk result (listed pages.new.items ≡ insert (listed pages.old.items) i item) }
+    ensures own { (i : ℕ) → IsSpot items_of pages.old.items i spot.page spot.offset → OnOk result (IsOwnAt pages.new.items i) }
     ensures pages { length pages.new.items ≤ length pages.old.items + 1 }
     ensures err { OnErr result (pages.new.items ≡ pages.old.items) }
     ensures stays { all_own pages.old.items ≡ true → all_own pages.new.items ≡ true }
@@ -119,6 +102,8 @@ pub(crate) fn put_item<T: CopyOf + Drop>(
 fn push_last<T: CopyOf + Drop>(pages: &mut Vec<Page<T>>, item: T) -> Result<(), Memory>
     requires { 0 < length pages.old.items }
     ensures items { OnOk result (listed pages.new.items ≡ listed pages.old.items ++ item ∷ []) }
+    ensures keeps { KeepsOwn pages.old.items pages.new.items }
+    ensures own { OnOk result (IsOwnAt pages.new.items (length (listed pages.old.items))) }
     ensures starts { starts_from items_of 0 pages.new.items ≡ starts_from items_of 0 pages.old.items }
     ensures err { OnErr result (pages.new.items ≡ pages.old.items) }
     ensures stays { all_own pages.old.items ≡ true → all_own pages.new.items ≡ true }
@@ -149,6 +134,8 @@ fn push_new<T: Drop>(
     requires placed { starts.old.items ≡ starts_from items_of 0 pages.old.items }
     requires count { count ≡ length (listed pages.old.items) }
     ensures items { OnOk result (listed pages.new.items ≡ listed pages.old.items ++ item ∷ []) }
+    ensures keeps { KeepsOwn pages.old.items pages.new.items }
+    ensures own { OnOk result (IsOwnAt pages.new.items (length (listed pages.old.items))) }
     ensures placed { starts.new.items ≡ starts_from items_of 0 pages.new.items }
     ensures err { OnErr result (pages.new.items ≡ pages.old.items) }
     ensures stays { all_own pages.old.items ≡ true → all_own pages.new.items ≡ true }
@@ -170,6 +157,8 @@ pub(crate) fn push_item<T: CopyOf + Drop>(
     requires placed { starts.old.items ≡ starts_from items_of 0 pages.old.items }
     requires count { count ≡ length (listed pages.old.items) }
     ensures items { OnOk result (listed pages.new.items ≡ listed pages.old.items ++ item ∷ []) }
+    ensures keeps { KeepsOwn pages.old.items pages.new.items }
+    ensures own { OnOk result (IsOwnAt pages.new.items (length (listed pages.old.items))) }
     ensures placed { starts.new.items ≡ starts_from items_of 0 pages.new.items }
     ensures err { OnErr result (pages.new.items ≡ pages.old.items) }
     ensures stays { all_own pages.old.items ≡ true → all_own pages.new.items ≡ true }

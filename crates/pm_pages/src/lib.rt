@@ -11,6 +11,7 @@ mod list;
 mod pages;
 mod places;
 mod rows;
+mod tested;
 
 pub use copies::CopyOf;
 pub use list::PageList;

@@ -1,8 +1,10 @@
 //! A page: its own list's, or shared with copies of the list.
 
-ghost use Rattle.std.specs.Prelude.{◌≡◌, ◌<◌, ◌≤◌, ◌++◌, true, Some, length, insert, slice_get, OnOk, OnErr, IfOk, IfErr, IsOk};
+ghost use Rattle.std.specs.Prelude.{◌≡◌, ◌<◌, ◌≤◌, ◌++◌, true, Bool, Some, length, insert, slice_get, OnOk, OnErr, IfOk, IfErr, IsOk};
 ghost use Rattle.std.specs.List.{remove};
-ghost use Rattle.pm_pages.specs.Listed.{items_of, is_own, with_item, without_item, changed_item, owned};
+ghost use Rattle.std.specs.Borrow.{Lends, sem};
+ghost use Rattle.pm_pages.specs.Paged.{Decides};
+ghost use Rattle.pm_pages.specs.Listed.{items_of, is_own, with_item, without_item, changed_item, owned, spared};
 
 use crate::blocks::Block;
 use crate::copies::CopyOf;
@@ -18,6 +20,33 @@ pub(crate) enum Page<T> {
     Own(Block<T>),
     /// Other lists may have the page too.
     Shared(Arc<Block<T>>),
+}
+
+impl<T> Page<T> {
+    ghost use Rattle.pm_pages.specs.contracts.pages.Page.{the_row};
+    ghost use Rattle.pm_pages.specs.contracts.blocks.Block.{the_row as block_row};
+
+    /// The block of a page of its own, to be written.
+    fn block_mut(&mut self) -> &mut Block<T>
+        requires { is_own self.old ≡ true }
+        ensures* writes_back { sem 𝓛 (Lends (the_row T.row) (block_row T.row) self.entry result Page.Own) }
+        ensures value { self.old ≡ Page.Own result.now }
+    {
+        match self {
+            Page::Own(block) => block,
+            Page::Shared(_) => unreachable!(),
+        }
+    }
+
+    /// The item at a place of a page of its own, to be written.
+    pub(crate) fn item_mut(&mut self, j: usize) -> &mut T
+        requires own { is_own self.old ≡ true }
+        requires place { j < length (items_of self.old) }
+        ensures* writes_back { sem 𝓛 (Lends (the_row T.row) T.row self.entry result (λ x. changed_item j x self.old)) }
+        ensures value { slice_get (items_of self.old) j ≡ Some result.now }
+    {
+        self.block_mut().item_mut(j)
+    }
 }
 
 /// The items of a page.
@@ -62,54 +91,25 @@ fn take<T>(alloc: Global, page: &mut Page<T>) -> Page<T>
     replace(page, Page::Own(Block::empty(alloc)))
 }
 
-/// Takes the item at a place out of a page.
-pub(crate) fn remove_from<T: CopyOf + Drop>(
-    alloc: Global,
-    page: &mut Page<T>,
-    j: usize,
-) -> Result<T, Memory>
-    requires { j < length (items_of page.old) }
-    ensures page { OnOk result (page.new ≡ without_item j page.old) }
-    ensures item { IfOk result (λ item. slice_get (items_of page.old) j ≡ Some item) }
-    ensures err { OnErr result (page.new ≡ page.old) }
-    ensures own { is_own page.old ≡ true → IsOk result }
+/// Takes the item at a place out of a page of its own.
+pub(crate) fn remove_from<T: Drop>(page: &mut Page<T>, j: usize) -> T
+    requires own { is_own page.old ≡ true }
+    requires place { j < length (items_of page.old) }
+    ensures page { page.new ≡ without_item j page.old }
+    ensures item { slice_get (items_of page.old) j ≡ Some result }
 {
-    match writable(alloc, take(alloc, page)) {
-        Ok(mut block) => {
-            let item = block.remove(j);
-            *page = Page::Own(block);
-            Ok(item)
-        }
-        Err(same) => {
-            *page = same;
-            Err(Memory)
-        }
-    }
+    page.block_mut().remove(j)
 }
 
-/// Puts an item in the place of another in a page, and answers the other.
-pub(crate) fn replace_in<T: CopyOf + Drop>(
-    alloc: Global,
-    page: &mut Page<T>,
-    j: usize,
-    item: T,
-) -> Result<T, Memory>
-    requires { j < length (items_of page.old) }
-    ensures page { OnOk result (page.new ≡ changed_item j item page.old) }
-    ensures item { IfOk result (λ before. slice_get (items_of page.old) j ≡ Some before) }
-    ensures err { OnErr result (page.new ≡ page.old) }
-    ensures own { is_own page.old ≡ true → IsOk result }
+/// Takes the items that pass the test out of a page of its own.
+pub(crate) fn spare<T: Drop, F: Fn(&T) -> bool>(page: &mut Page<T>, test: &F)
+    ghost passes: { T → Bool }
+    requires callable { F.IsAlwaysCallable test.now }
+    requires decides { Decides F.Fn passes test.now }
+    ensures { page.new ≡ spared passes page.old }
 {
-    match writable(alloc, take(alloc, page)) {
-        Ok(mut block) => {
-            let before = block.replace(j, item);
-            *page = Page::Own(block);
-            Ok(before)
-        }
-        Err(same) => {
-            *page = same;
-            Err(Memory)
-        }
+    if let Page::Own(block) = page {
+        block.remove_where(test);
     }
 }
 

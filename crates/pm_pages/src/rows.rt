@@ -2,51 +2,24 @@
 
 ghost use Rattle.std.specs.Prelude.{◌≡◌, ◌<◌, ◌≤◌, ◌+◌, ◌++◌, ◌∷◌, [], true, Some, length, insert, slice_get, map, vec_capacity, OnOk, OnErr, IfOk, IsOk};
 ghost use Rattle.std.specs.List.{remove};
-ghost use Rattle.pm_pages.specs.Listed.{items_of, listed, all_own, starts_from, piece, edited, with_item, without_item, changed_item, owned, IsSplit, without_empty};
+ghost use Rattle.pm_pages.specs.Listed.{items_of, listed, starts_from, piece, edited, with_item, without_item, owned, own_page, IsSplit, without_empty};
 
 use crate::blocks::Block;
 use crate::copies::CopyOf;
-use crate::pages::{
-    Page, copy_page, halves_with, insert_into, items, own, remove_from, replace_in, share,
-};
+use crate::pages::{Page, copy_page, halves_with, insert_into, items, own, remove_from, share};
 use pm_model::Memory;
 use std::alloc::Global;
 
-/// Takes the item at a place of a page out of the page.
-pub(crate) fn remove_at<T: CopyOf + Drop>(
-    pages: &mut Vec<Page<T>>,
-    k: usize,
-    j: usize,
-) -> Result<T, Memory>
+/// Takes the item at a place of an own page out of the page.
+pub(crate) fn remove_at<T: Drop>(pages: &mut Vec<Page<T>>, k: usize, j: usize) -> T
     requires page { k < length pages.old.items }
     requires place { j < length (piece items_of pages.old.items k) }
-    ensures pages { OnOk result (pages.new.items ≡ edited (without_item j) k pages.old.items) }
-    ensures item { IfOk result (λ item. slice_get (piece items_of pages.old.items k) j ≡ Some item) }
-    ensures err { OnErr result (pages.new.items ≡ pages.old.items) }
-    ensures own { all_own pages.old.items ≡ true → IsOk result }
+    requires own { own_page pages.old.items k ≡ true }
+    ensures pages { pages.new.items ≡ edited (without_item j) k pages.old.items }
+    ensures item { slice_get (piece items_of pages.old.items k) j ≡ Some result }
 {
-    let alloc = *pages.allocator();
     let page = &mut pages[k];
-    remove_from(alloc, page, j)
-}
-
-/// Puts an item in the place of another, and answers the other.
-pub(crate) fn replace_at<T: CopyOf + Drop>(
-    pages: &mut Vec<Page<T>>,
-    k: usize,
-    j: usize,
-    item: T,
-) -> Result<T, Memory>
-    requires page { k < length pages.old.items }
-    requires place { j < length (piece items_of pages.old.items k) }
-    ensures pages { OnOk result (pages.new.items ≡ edited (changed_item j item) k pages.old.items) }
-    ensures item { IfOk result (λ before. slice_get (piece items_of pages.old.items k) j ≡ Some before) }
-    ensures err { OnErr result (pages.new.items ≡ pages.old.items) }
-    ensures own { all_own pages.old.items ≡ true → IsOk result }
-{
-    let alloc = *pages.allocator();
-    let page = &mut pages[k];
-    replace_in(alloc, page, j, item)
+    remove_from(page, j)
 }
 
 /// Puts an item at a place of a page.
@@ -108,11 +81,12 @@ pub(crate) fn drop_empty<T: Drop>(pages: &mut Vec<Page<T>>, k: usize)
     }
 }
 
-/// Where the pages begin, anew.
-pub(crate) fn restart<T>(starts: &mut Vec<usize>, pages: &[Page<T>], count: usize)
+/// Where the pages begin, anew; and how many items they have.
+pub(crate) fn restart<T>(starts: &mut Vec<usize>, pages: &[Page<T>], most: usize) -> usize
     requires places { length pages.now ≤ vec_capacity starts.old }
-    requires count { count ≡ length (listed pages.now) }
-    ensures { starts.new.items ≡ starts_from items_of 0 pages.now }
+    requires most { length (listed pages.now) ≤ most }
+    ensures starts { starts.new.items ≡ starts_from items_of 0 pages.now }
+    ensures count { result ≡ length (listed pages.now) }
 {
     starts.clear();
     let mut begin = 0;
@@ -120,6 +94,7 @@ pub(crate) fn restart<T>(starts: &mut Vec<usize>, pages: &[Page<T>], count: usiz
         starts.push_reserved(begin);
         begin += items(page).len();
     }
+    begin
 }
 
 /// The same pages once more.
@@ -156,26 +131,14 @@ fn share_at<T: Drop>(alloc: Global, pages: &mut Vec<Page<T>>, k: usize) -> Resul
     share(alloc, page)
 }
 
-/// Lets each page be the list's own.
-pub(crate) fn own_pages<T: CopyOf + Drop>(pages: &mut Vec<Page<T>>) -> Result<(), Memory>
-    ensures items { map items_of pages.new.items ≡ map items_of pages.old.items }
-    ensures ok { OnOk result (all_own pages.new.items ≡ true) }
-    ensures own { all_own pages.old.items ≡ true → IsOk result }
-    ensures err { OnErr result (all_own pages.new.items ≡ all_own pages.old.items) }
-{
-    let alloc = *pages.allocator();
-    for k in 0..pages.len() {
-        own_at(alloc, pages, k)?;
-    }
-    Ok(())
-}
-
-fn own_at<T: CopyOf + Drop>(alloc: Global, pages: &mut Vec<Page<T>>, k: usize) -> Result<(), Memory>
+/// Lets a page be the list's own.
+pub(crate) fn own_at<T: CopyOf + Drop>(pages: &mut Vec<Page<T>>, k: usize) -> Result<(), Memory>
     requires { k < length pages.old.items }
     ensures pages { OnOk result (pages.new.items ≡ edited owned k pages.old.items) }
     ensures err { OnErr result (pages.new.items ≡ pages.old.items) }
-    ensures own { all_own pages.old.items ≡ true → IsOk result }
+    ensures own { own_page pages.old.items k ≡ true → IsOk result }
 {
+    let alloc = *pages.allocator();
     let page = &mut pages[k];
     own(alloc, page)
 }

@@ -74,8 +74,10 @@ fn insert(pair: &mut Pair, at: usize, number: u32) -> Result<(), Fail> {
 
 fn replace(rt: &impl Abort, pair: &mut Pair, at: usize, number: u32) -> Result<(), Fail> {
     if at < pair.list.len() && at < pair.plain.len() {
-        let before = pair.list.set(at, ElementId(number))?;
-        assert_eq!(rt; before.number(), pair.plain[at]);
+        pair.list.own_at(at)?;
+        let item = pair.list.edit(at);
+        assert_eq!(rt; item.number(), pair.plain[at]);
+        *item = ElementId(number);
         pair.plain[at] = number;
     }
     Ok(())
@@ -83,7 +85,8 @@ fn replace(rt: &impl Abort, pair: &mut Pair, at: usize, number: u32) -> Result<(
 
 fn remove(rt: &impl Abort, pair: &mut Pair, at: usize) -> Result<(), Fail> {
     if at < pair.list.len() && at < pair.plain.len() {
-        let gone = pair.list.remove(at)?;
+        pair.list.own_at(at)?;
+        let gone = pair.list.remove(at);
         assert_eq!(rt; gone.number(), pair.plain.remove(at));
     }
     Ok(())
@@ -143,13 +146,27 @@ fn copies_go_apart(rt: HostRuntime) -> Result<(), Fail> {
     Ok(())
 }
 
+/// Takes each item out whose number has the rest, of both.
+fn remove_rest(pair: &mut Pair, rest: u32) -> Result<(), Fail> {
+    let has_rest = |id: &ElementId| id.number() % 3 == rest;
+    pair.list.own_where(&has_rest)?;
+    pair.list.remove_where(&has_rest);
+    pair.plain.retain(|number| *number % 3 != rest);
+    Ok(())
+}
+
 #[test]
-fn a_list_alone_again_is_the_same(rt: HostRuntime) -> Result<(), Fail> {
-    let mut first = pair_of(&rt, 130)?;
-    let second = copied(&rt, &mut first)?;
-    first.list.own()?;
-    check(&rt, &first);
-    change_all(&rt, &mut first, 4)?;
-    check(&rt, &second);
+fn what_passes_a_test_goes(rt: HostRuntime) -> Result<(), Fail> {
+    for count in [0, 1, 63, 64, 65, 4096, 4097] {
+        let mut first = pair_of(&rt, count)?;
+        let second = copied(&rt, &mut first)?;
+        remove_rest(&mut first, 1)?;
+        check(&rt, &first);
+        change_all(&rt, &mut first, 4)?;
+        remove_rest(&mut first, 0)?;
+        remove_rest(&mut first, 2)?;
+        assert_eq!(&rt; first.list.len(), first.plain.len());
+        check(&rt, &second);
+    }
     Ok(())
 }

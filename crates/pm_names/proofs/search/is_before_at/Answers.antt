@@ -1,4 +1,4 @@
-use Rattle.std.proofs.Common.{◌≡◌, refl}
+use Rattle.std.proofs.Common.{refl}
 use Rattle.pm_names.proofs.Order.{read-before}
 use Rattle.pm_names.proofs.search.is_before_at.Goals as goal
 

@@ -1,4 +1,4 @@
-use Rattle.std.proofs.Common.{◌≡◌, ◌∙◌, sym}
+use Rattle.std.proofs.Common.{◌∙◌, sym}
 use Rattle.pm_names.proofs.Order.{read-named, read-none}
 use Rattle.pm_names.proofs.search.is_named_at.Goals as goal
 

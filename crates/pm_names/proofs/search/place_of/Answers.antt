@@ -1,4 +1,4 @@
-use Rattle.std.proofs.Common.{◌≡◌, arith}
+use Rattle.std.proofs.Common.{arith}
 use Rattle.pm_names.proofs.Order.{before-end}
 use Rattle.pm_names.proofs.search.place_of.Goals as goal
 

@@ -8,7 +8,7 @@ overflow_add-begin g c =
     let i = c.loop-page.invariant in
     let walk = length-walk items_of c.args.pages.now c.loop-page.page-index c.page-item.result c.loop-page-test.true c.page-item.is in
     let l = ap length c.items.ensures in
-    omega (arith, walk, l, i.begin, c.requires.count, c.ranges.count)
+    omega (arith, walk, l, i.begin, c.requires.most, c.ranges.most)
 
 pub loop-page-preserved : goal.loop-page-preserved
 loop-page-preserved g c =

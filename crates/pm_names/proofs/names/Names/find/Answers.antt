@@ -1,4 +1,4 @@
-use Rattle.std.proofs.Common.{◌≡◌, ◌∙◌}
+use Rattle.std.proofs.Common.{◌∙◌}
 use Rattle.pm_names.proofs.Order.{lookup-here}
 use Rattle.pm_names.proofs.names.Names.find.Goals as goal
 

@@ -5,16 +5,16 @@ use Rattle.pm_pages.specs.Listed.{items_of, listed}
 use Rattle.pm_pages.proofs.Spots.{length-starts}
 use Rattle.pm_pages.proofs.list.PageList.insert_before.Goals as goal
 
-pub restart-requires-clause-places : goal.restart-requires-clause-places
-restart-requires-clause-places g c =
+pub restart-self-inside-requires-clause-places : goal.restart-self-inside-requires-clause-places
+restart-self-inside-requires-clause-places g c =
     let e = ap length c.deref-3.ensures.value in
     let p = c.in_ok-put_item.ensures.pages in
     let s = ap length c.self.invariant.starts in
     let l = length-starts items_of 0 c.self.inside.pages.items in
     omega (arith, e, p, s, l, c.in_ok-reserve.ensures.len, c.in_ok-reserve.ensures.ok, c.self.inside.starts.ok)
 
-pub restart-requires-clause-count : goal.restart-requires-clause-count
-restart-requires-clause-count g c =
+pub restart-self-inside-requires-clause-most : goal.restart-self-inside-requires-clause-most
+restart-self-inside-requires-clause-most g c =
     let spot = rw c.deref.ensures.value at c.find-spot.ensures.spot in
     let e = ap (λ ps. length (listed ps)) c.deref-3.ensures.value in
     let r = ap length (c.in_ok-put_item.ensures.items c.args.i spot) in
@@ -22,15 +22,3 @@ restart-requires-clause-count g c =
     let within : c.args.i < length (listed c.self.inside.pages.items) = omega (arith, v, c.requires) in
     let l = length-insert (listed c.self.inside.pages.items) c.args.i c.args.item (omega (arith, within)) in
     omega (arith, e, r, l, c.self.invariant.counted)
-
-pub invariant_of-self-2 : goal.invariant_of-self-2
-invariant_of-self-2 g c =
-    let spot = rw c.deref.ensures.value at c.find-spot.ensures.spot in
-    let r = ap length (c.in_ok-put_item.ensures.items c.args.i spot) in
-    let v = ap (λ (p : Paged g.row.T.Denot). length p.items) c.self.view_is in
-    let within : c.args.i < length (listed c.self.inside.pages.items) = omega (arith, v, c.requires) in
-    let l = length-insert (listed c.self.inside.pages.items) c.args.i c.args.item (omega (arith, within)) in
-    record {
-      starts = rw c.deref-3.ensures.value at c.restart.ensures;
-      counted = omega (arith, r, l, c.self.invariant.counted);
-    }
