@@ -1,5 +1,5 @@
 -- What is asked of the associations, by user attribute.
-use Rattle.std.proofs.Common.{◌≡◌, ℕ, zero, suc, ◌+◌, ◌<◌, ◌==◌, List, [], ◌∷◌, ◌++◌, length, get_or, Bool, true, false, ◌||◌, refl, ◌∙◌, arith, ne_eqb, eq-eqb}
+use Rattle.std.proofs.Common.{◌≡◌, ℕ, zero, suc, ◌+◌, ◌<◌, ◌==◌, List, [], ◌∷◌, ◌++◌, length, slice_get, Some, Bool, true, false, ◌||◌, refl, ap, ◌∙◌, arith, ne_eqb, eq-eqb}
 use Rattle.std.specs.List.{list_any}
 use Rattle.std.proofs.lemmas.List.Folds.{list_any-append}
 use Rattle.pm_model.specs.Effect.{joins, has_end}
@@ -33,17 +33,18 @@ module _ (ua at : ℕ) where
   joins-higher n (g ∷ gs) h below =
       joins-before g (associations_of gs) (ne_eqb g.ua ua (λ same. omega (arith, same, h.0, below))) ∙ joins-higher (g.ua + 1) gs h.2 (omega (arith, h.0, below))
 
-  pub joins-at : (n : ℕ) (gs : List Grantee) (i : ℕ) (d : Grantee) → AreGrantees n gs → IsAt ua gs i →
-      list_any (joins ua at) (associations_of gs) ≡ list_any (is_on at) (get_or gs i d).grants
-  joins-at n [] i d h there = absurd there
-  joins-at n (g ∷ gs) zero d h there =
+  pub joins-at : (n : ℕ) (gs : List Grantee) (i : ℕ) (g : Grantee) → AreGrantees n gs → IsAt ua gs i → slice_get gs i ≡ Some g →
+      list_any (joins ua at) (associations_of gs) ≡ list_any (is_on at) g.grants
+  joins-at n [] i g h there read = absurd there
+  joins-at n (x ∷ gs) zero g h there read =
+      let same : x ≡ g = cc in
       rw (
-        list_any-append (joins ua at) (of_grantee g) (associations_of gs),
-        joins-higher (g.ua + 1) gs h.2 (omega (arith, there)),
-        joins-own g.ua g.grants (eq-eqb g.ua ua there),
-      ) (or_false (list_any (is_on at) g.grants))
-  joins-at n (g ∷ gs) (suc i) d h there =
-      joins-before g (associations_of gs) (ne_eqb g.ua ua (λ same. omega (arith, same, there.0))) ∙ joins-at (g.ua + 1) gs i d h.2 there.1
+        list_any-append (joins ua at) (of_grantee x) (associations_of gs),
+        joins-higher (x.ua + 1) gs h.2 (omega (arith, there)),
+        joins-own x.ua x.grants (eq-eqb x.ua ua there),
+      ) (or_false (list_any (is_on at) x.grants) ∙ ap (λ (y : Grantee). list_any (is_on at) y.grants) same)
+  joins-at n (x ∷ gs) (suc i) g h there read =
+      joins-before x (associations_of gs) (ne_eqb x.ua ua (λ same. omega (arith, same, there.0))) ∙ joins-at (x.ua + 1) gs i g h.2 there.1 read
 
   pub joins-gap : (n : ℕ) (gs : List Grantee) (i : ℕ) → AreGrantees n gs → IsGapFor ua gs i → list_any (joins ua at) (associations_of gs) ≡ false
   joins-gap n [] i h gap = refl

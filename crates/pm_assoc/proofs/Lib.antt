@@ -3,3 +3,4 @@ mod Asked
 mod Edits
 mod Places
 mod Removed
+mod Runs

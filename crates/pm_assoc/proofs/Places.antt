@@ -1,65 +1,58 @@
--- The order of the user attributes, and where a binary search ends among them.
-use Rattle.std.proofs.Common.{◌≡◌, ℕ, zero, suc, ◌+◌, ◌<◌, ◌≤◌, List, [], ◌∷◌, length, get_or, Result, Ok, Err, IfOk, IfErr, sym, ap, arith}
-use Rattle.std.specs.List.Sorted.{IsSearchInRange, IsBinarySearchResult, IsNonDecreasingBy}
-use Rattle.std.specs.Ordering.{nat_cmp, ordering_index}
-use Rattle.std.proofs.lemmas.Cmp.{ranked}
-use Rattle.std.proofs.lemmas.List.Sorted.{IsNonDecreasingBy-from_default}
-use Rattle.std.proofs.lemmas.Bool.Decides.{nat_tests}
+-- Where halving ends among user attributes that rise: at the one that is sought, or at the gap for it.
+use Rattle.std.proofs.Common.{◌≡◌, ℕ, zero, suc, ◌+◌, ◌<◌, Bool, true, false, List, [], ◌∷◌, length, slice_get, Some, None, refl, ap, arith}
+use Rattle.std.proofs.lemmas.Bool.{false≢true, ltb-true, ltb-false, eqb-true, eqb-false}
 use Rattle.pm_model.specs.declared.rights.Grantee.{Grantee}
-use Rattle.pm_assoc.specs.Grantees.{grantee, AreGrantees, IsAt, IsGapFor}
+use Rattle.pm_assoc.specs.Grantees.{AreGrantees, IsAt, IsGapFor, IsCut, is_lower, is_of, passes_at}
 
-abbrev nobody : Grantee
-nobody = grantee 0 []
+-- ---- what is read at a place
 
--- the user attribute at a place
-abbrev ua_at : List Grantee → ℕ → ℕ
-ua_at gs k = let g = get_or gs k nobody in g.ua
+pub passes-read : (test : Grantee → Bool) (gs : List Grantee) (i : ℕ) (g : Grantee) → slice_get gs i ≡ Some g → passes_at test gs i ≡ test g
+passes-read test [] i g is = cc
+passes-read test (d ∷ gs) zero g is = let same : d ≡ g = cc in ap test same
+passes-read test (d ∷ gs) (suc i) g is = passes-read test gs i g is
 
-least : (n : ℕ) (gs : List Grantee) (k : ℕ) → AreGrantees n gs → k < length gs → n ≤ ua_at gs k
-least n [] k h below = absurd (omega (arith, below))
-least n (g ∷ gs) zero h below = h.0
-least n (g ∷ gs) (suc k) h below = let rest = least (g.ua + 1) gs k h.2 (omega (arith, below)) in omega (arith, rest, h.0)
+pub passes-none : (test : Grantee → Bool) (gs : List Grantee) (i : ℕ) → slice_get gs i ≡ None → passes_at test gs i ≡ false
+passes-none test [] i is = refl
+passes-none test (d ∷ gs) zero is = cc
+passes-none test (d ∷ gs) (suc i) is = passes-none test gs i is
 
-rising : (n : ℕ) (gs : List Grantee) (i j : ℕ) → AreGrantees n gs → i < j → j < length gs → ua_at gs i < ua_at gs j
-rising n [] i j h before below = absurd (omega (arith, below))
-rising n (g ∷ gs) i zero h before below = absurd (omega (arith, before))
-rising n (g ∷ gs) zero (suc j) h before below = let rest = least (g.ua + 1) gs j h.2 (omega (arith, below)) in omega (arith, rest)
-rising n (g ∷ gs) (suc i) (suc j) h before below = rising (g.ua + 1) gs i j h.2 (omega (arith, before)) (omega (arith, below))
+pub passes-end : (test : Grantee → Bool) (gs : List Grantee) (i : ℕ) → i ≡ length gs → passes_at test gs i ≡ false
+passes-end test [] i end = refl
+passes-end test (g ∷ gs) zero end = absurd (omega (arith, end))
+passes-end test (g ∷ gs) (suc i) end = passes-end test gs i (omega (arith, end))
 
-at-from_place : (n : ℕ) (gs : List Grantee) (ua i : ℕ) → AreGrantees n gs → i < length gs → ua_at gs i ≡ ua → IsAt ua gs i
-at-from_place n [] ua i h below same = absurd (omega (arith, below))
-at-from_place n (g ∷ gs) ua zero h below same = same
-at-from_place n (g ∷ gs) ua (suc i) h below same =
-    let later = least (g.ua + 1) gs i h.2 (omega (arith, below)) in
-    (omega (arith, later, same), at-from_place (g.ua + 1) gs ua i h.2 (omega (arith, below)) same)
+pub passes-within : (test : Grantee → Bool) (gs : List Grantee) (i : ℕ) → passes_at test gs i ≡ true → i < length gs
+passes-within test [] i is = absurd (false≢true is)
+passes-within test (g ∷ gs) zero is = omega arith
+passes-within test (g ∷ gs) (suc i) is = let rest = passes-within test gs i is in omega (arith, rest)
 
-gap-from_place : (gs : List Grantee) (ua i : ℕ) → i ≤ length gs → ((k : ℕ) → k < i → ua_at gs k < ua) →
-    ((k : ℕ) → i ≤ k → k < length gs → ua < ua_at gs k) → IsGapFor ua gs i
-gap-from_place [] ua i within lower higher = omega (arith, within)
-gap-from_place (g ∷ gs) ua zero within lower higher = higher 0 (omega arith) (omega arith)
-gap-from_place (g ∷ gs) ua (suc i) within lower higher = (
-  lower 0 (omega arith),
-  gap-from_place gs ua i (omega (arith, within)) (λ k l. lower (suc k) (omega (arith, l)))
-      (λ k l m. higher (suc k) (omega (arith, l)) (omega (arith, m))),
-)
+-- ---- where halving ends
 
--- a binary search ends at the user attribute, or at the gap for it
-module _ (gs : List Grantee) (h : AreGrantees 0 gs) (ua : ℕ) where
-  comparisons-rise : IsNonDecreasingBy (λ g. ordering_index (nat_cmp g.ua ua)) gs
-  comparisons-rise =
-      IsNonDecreasingBy-from_default (λ g. ordering_index (nat_cmp g.ua ua)) gs nobody (λ i j le below.
-      let rise : ua_at gs i ≤ ua_at gs j = grind (arith, rising 0 gs i j h, λ (same : i ≡ j). ap (ua_at gs) same) in
-      grind (arith, nat_tests))
+module _ (ua : ℕ) where
+  -- those before a lower one are lower
+  lower-before : (n : ℕ) (gs : List Grantee) (k : ℕ) → AreGrantees n gs → passes_at (is_lower ua) gs k ≡ true → n < ua
+  lower-before n [] k h is = absurd (false≢true is)
+  lower-before n (g ∷ gs) zero h is = let l = ltb-true g.ua ua is in omega (arith, l, h.0)
+  lower-before n (g ∷ gs) (suc k) h is = let l = lower-before (g.ua + 1) gs k h.2 is in omega (arith, l, h.0)
 
-  pub searched : (r : Result ℕ ℕ) → IsSearchInRange r (length gs) → IsBinarySearchResult (λ g. nat_cmp g.ua ua) gs r →
-      record { found : IfOk r (IsAt ua gs); absent : IfErr r (IsGapFor ua gs) }
-  searched (Ok i) within equal = record {
-    found = at-from_place 0 gs ua i h within (ranked _ ua _ (sym (equal nobody)));
-    absent = tt;
+  first-lower : (g : Grantee) (gs : List Grantee) (n i : ℕ) → AreGrantees n (g ∷ gs) → IsCut ua (g ∷ gs) (suc i) → g.ua < ua
+  first-lower g gs n i h cut = lower-before g.ua (g ∷ gs) i (omega arith, h.1, h.2) (cut.behind i (omega arith))
+
+  cut-further : (g : Grantee) (gs : List Grantee) (i : ℕ) → IsCut ua (g ∷ gs) (suc i) → IsCut ua gs i
+  cut-further g gs i cut = record {
+    within = let w = cut.within in omega (arith, w);
+    behind = λ k is. cut.behind (suc k) (omega (arith, is));
+    before = cut.before;
   }
-  searched (Err i) within parted = record {
-    found = tt;
-    absent = gap-from_place gs ua i within
-        (λ k l. ranked _ ua _ (sym ((parted comparisons-rise).0 k nobody (omega arith) l)))
-        (λ k l m. ranked _ ua _ (sym ((parted comparisons-rise).1 k nobody l m)));
-  }
+
+  pub found-at_cut : (n : ℕ) (gs : List Grantee) (i : ℕ) → AreGrantees n gs → IsCut ua gs i → passes_at (is_of ua) gs i ≡ true → IsAt ua gs i
+  found-at_cut n [] i h cut is = absurd (false≢true is)
+  found-at_cut n (g ∷ gs) zero h cut is = eqb-true g.ua ua is
+  found-at_cut n (g ∷ gs) (suc i) h cut is = (first-lower g gs n i h cut, found-at_cut (g.ua + 1) gs i h.2 (cut-further g gs i cut) is)
+
+  pub gap-at_cut : (n : ℕ) (gs : List Grantee) (i : ℕ) → AreGrantees n gs → IsCut ua gs i → passes_at (is_of ua) gs i ≡ false → IsGapFor ua gs i
+  gap-at_cut n [] i h cut not = let w = cut.within in omega (arith, w)
+  gap-at_cut n (g ∷ gs) zero h cut not =
+      let others : g.ua ≡ ua → ⊥ = eqb-false g.ua ua not in
+      let least = ltb-false g.ua ua cut.before in omega (arith, others, least)
+  gap-at_cut n (g ∷ gs) (suc i) h cut not = (first-lower g gs n i h cut, gap-at_cut (g.ua + 1) gs i h.2 (cut-further g gs i cut) not)

@@ -1,5 +1,5 @@
 -- The associations of one user attribute on one element are gone.
-use Rattle.std.proofs.Common.{◌≡◌, ℕ, zero, suc, ◌+◌, ◌<◌, ◌≤◌, ◌==◌, List, [], ◌∷◌, ◌++◌, length, get_or, filter, not, Bool, true, false, refl, sym, ◌∙◌, ap, arith, ne_eqb, eq-eqb, length-append}
+use Rattle.std.proofs.Common.{◌≡◌, ℕ, zero, suc, ◌+◌, ◌<◌, ◌≤◌, ◌==◌, List, [], ◌∷◌, ◌++◌, length, slice_get, Some, filter, not, Bool, true, false, refl, sym, ◌∙◌, ap, arith, ne_eqb, eq-eqb, length-append}
 use Rattle.std.proofs.lemmas.Bool.{eqb-true, eqb-false}
 use Rattle.std.proofs.lemmas.List.{length-map}
 use Rattle.std.proofs.lemmas.List.Elements.{filter-append}
@@ -105,14 +105,15 @@ length-grants_off at (grant ∷ grants) = either (length-grants_off at grants) (
 length-of : (g : Grantee) (bs : List Association) → length (of_grantee g ++ bs) ≡ length g.grants + length bs
 length-of g bs = let l = length-append (of_grantee g) bs in let m = length-map g.grants (association g.ua) in omega (arith, l, m)
 
-pub length-removed : (gs : List Grantee) (i at gone : ℕ) (g : Grantee) → i < length gs → g ≡ get_or gs i g →
+pub length-removed : (gs : List Grantee) (i at gone : ℕ) (g : Grantee) → slice_get gs i ≡ Some g →
     length (grants_off at g.grants) + gone ≡ length g.grants → length (associations_of (edited (without_grant at) i gs)) + gone ≡ length (associations_of gs)
-length-removed [] i at gone g below read count = absurd (omega (arith, below))
-length-removed (x ∷ gs) zero at gone g below read count =
+length-removed [] i at gone g read count = cc
+length-removed (x ∷ gs) zero at gone g read count =
+    let same : x ≡ g = cc in
     let l = length-of x (associations_of gs) in
     let m = length-of (without_grant at x) (associations_of gs) in
-    let n : length (grants_off at x.grants) + gone ≡ length x.grants = rw (← read) count in omega (arith, l, m, n)
-length-removed (x ∷ gs) (suc i) at gone g below read count =
-    let rest = length-removed gs i at gone g (omega (arith, below)) read count in
+    let n : length (grants_off at x.grants) + gone ≡ length x.grants = rw same count in omega (arith, l, m, n)
+length-removed (x ∷ gs) (suc i) at gone g read count =
+    let rest = length-removed gs i at gone g read count in
     let l = length-of x (associations_of gs) in
     let m = length-of x (associations_of (edited (without_grant at) i gs)) in omega (arith, l, m, rest)

@@ -1,3 +1,4 @@
 pub mod Grantees
 pub mod Kept
+pub mod Shown
 pub mod Told

@@ -16,8 +16,8 @@ impl Assoc {
     /// Whether the user attribute could be associated with the element. `Already` where it has an
     /// association on it, whatever the rights; else `Full` where there are 65,536 associations.
     pub fn check_associate(&self, ua: ElementId, at: ElementId) -> Result<(), AssocError>
-        ensures fits { OnOk result (first_of (associate_checks (associations_of self.now) ua at) ≡ None) }
-        ensures refused { IfErr result (λ e. IsCause (first_of (associate_checks (associations_of self.now) ua at)) (told e)) }
+        ensures fits { OnOk result (first_of (associate_checks (associations_of self.now.grantees) ua at) ≡ None) }
+        ensures refused { IfErr result (λ e. IsCause (first_of (associate_checks (associations_of self.now.grantees) ua at)) (told e)) }
         ensures no_memory { IfErr result (λ e. e ≢ AssocError.Memory) }
     {
         if self.has(ua, at) {
@@ -32,8 +32,8 @@ impl Assoc {
     /// Whether the user attribute has an association on the element to be taken away. `Absent` where
     /// it has none.
     pub fn check_dissociate(&self, ua: ElementId, at: ElementId) -> Result<(), AssocError>
-        ensures fits { OnOk result (first_of (dissociate_checks (associations_of self.now) ua at) ≡ None) }
-        ensures refused { IfErr result (λ e. IsCause (first_of (dissociate_checks (associations_of self.now) ua at)) (told e)) }
+        ensures fits { OnOk result (first_of (dissociate_checks (associations_of self.now.grantees) ua at) ≡ None) }
+        ensures refused { IfErr result (λ e. IsCause (first_of (dissociate_checks (associations_of self.now.grantees) ua at)) (told e)) }
         ensures no_memory { IfErr result (λ e. e ≢ AssocError.Memory) }
     {
         if !self.has(ua, at) {

@@ -1,25 +1,17 @@
-//! The user attributes that have associations, by rising number: where one stands, and how one
+//! The user attributes that have associations, by rising number: what is asked of them, and how one
 //! association comes or goes.
 
-ghost use Rattle.std.specs.Prelude.{◌≡◌, ◌+◌, ◌<◌, ◌≤◌, ◌==◌, [], ◌∷◌, length, insert, filter, not, IfOk, IfErr, OnOk, OnErr};
+ghost use Rattle.std.specs.Prelude.{◌≡◌, ◌+◌, ◌<◌, ◌≤◌, ◌==◌, [], ◌∷◌, true, length, insert, filter, not, IfOk, IsOk, OnOk, OnErr};
 ghost use Rattle.std.specs.List.{list_any};
-ghost use Rattle.std.specs.List.Sorted.{IsSearchInRange};
 ghost use Rattle.pm_model.specs.Effect.{joins, joined};
 ghost use Rattle.pm_model.specs.Decision.{associations_of};
-ghost use Rattle.pm_assoc.specs.Grantees.{AreGrantees, IsAt, IsGapFor, grantee, association, is_on, mentions, edited, with_grant, grants_off, without_grant, without_empty};
+ghost use Rattle.pm_pages.specs.Paged.{IsOwn};
+ghost use Rattle.pm_assoc.specs.Grantees.{AreGrantees, grantee, association, is_on, mentions, edited, with_grant, grants_off, without_grant, without_empty};
 
+use crate::search::locate;
 use pm_model::{ElementId, Grant, Grantee, ItemList, Memory};
+use pm_pages::PageList;
 use std::alloc::Global;
-
-/// The place of a user attribute, or the place where it would stand.
-fn locate(grantees: &Vec<Grantee>, ua: ElementId) -> Result<usize, usize>
-    requires { AreGrantees 0 grantees.now.items }
-    ensures bound { IsSearchInRange result (length grantees.now.items) }
-    ensures found { IfOk result (IsAt ua grantees.now.items) }
-    ensures absent { IfErr result (IsGapFor ua grantees.now.items) }
-{
-    grantees.binary_search_by_key(&ua.number(), |grantee| grantee.ua.number())
-}
 
 /// Whether one of the grants is on the element.
 fn is_given(grants: &ItemList<Grant>, at: ElementId) -> bool
@@ -29,12 +21,12 @@ fn is_given(grants: &ItemList<Grant>, at: ElementId) -> bool
 }
 
 /// Whether the user attribute has an association on the element.
-pub(crate) fn has(grantees: &Vec<Grantee>, ua: ElementId, at: ElementId) -> bool
+pub(crate) fn has(grantees: &PageList<Grantee>, ua: ElementId, at: ElementId) -> bool
     requires { AreGrantees 0 grantees.now.items }
     ensures { result ≡ list_any (joins ua at) (associations_of grantees.now.items) }
 {
     match locate(grantees, ua) {
-        Ok(i) => is_given(&grantees[i].grants, at),
+        Ok(i) => is_given(&grantees.at(i).grants, at),
         Err(_) => false,
     }
 }
@@ -46,21 +38,45 @@ fn is_mentioned(grantee: &Grantee, id: ElementId) -> bool
     grantee.ua == id || is_given(&grantee.grants, id)
 }
 
-/// Whether one of the user attributes is the element, or has an association on it.
-pub(crate) fn is_named(grantees: &Vec<Grantee>, id: ElementId) -> bool
-    ensures { result ≡ list_any (mentions id) grantees.now.items }
+/// Whether one of the user attributes of a page is the element, or has an association on it.
+fn is_named_among(grantees: &[Grantee], id: ElementId) -> bool
+    ensures { result ≡ list_any (mentions id) grantees.now }
 {
     grantees.iter().any(|grantee| is_mentioned(grantee, id))
 }
 
+/// Whether one of the user attributes is the element, or has an association on it.
+pub(crate) fn is_named(grantees: &PageList<Grantee>, id: ElementId) -> bool
+    ensures { result ≡ list_any (mentions id) grantees.now.items }
+{
+    let mut begin = 0;
+    while begin < grantees.len() {
+        let run = grantees.run(begin);
+        if is_named_among(run, id) {
+            return true;
+        }
+        begin += run.len();
+    }
+    false
+}
+
+/// Puts an association behind the others of the user attribute.
+fn push_grant(grantee: &mut Grantee, grant: Grant) -> Result<(), Memory>
+    ensures ok { OnOk result (grantee.new ≡ with_grant grant grantee.old) }
+    ensures err { OnErr result (grantee.new ≡ grantee.old) }
+{
+    grantee.grants.push(grant)
+}
+
 /// Puts an association behind those of the user attribute at a place.
-fn add_grant(grantees: &mut Vec<Grantee>, i: usize, grant: Grant) -> Result<(), Memory>
+fn add_grant(grantees: &mut PageList<Grantee>, i: usize, grant: Grant) -> Result<(), Memory>
     requires { i < length grantees.old.items }
     ensures ok { OnOk result (grantees.new.items ≡ edited (with_grant grant) i grantees.old.items) }
+    ensures alone { grantees.new.alone ≡ grantees.old.alone }
     ensures err { OnErr result (grantees.new.items ≡ grantees.old.items) }
 {
-    let grantee = &mut grantees[i];
-    grantee.grants.push(grant)
+    grantees.own_at(i)?;
+    push_grant(grantees.edit(i), grant)
 }
 
 /// A user attribute with one association.
@@ -74,26 +90,30 @@ fn first_grant(alloc: Global, ua: ElementId, grant: Grant) -> Result<Grantee, Me
 
 /// Puts a user attribute with one association at a place.
 fn add_grantee(
-    grantees: &mut Vec<Grantee>,
+    grantees: &mut PageList<Grantee>,
     i: usize,
     ua: ElementId,
     grant: Grant,
 ) -> Result<(), Memory>
     requires { i ≤ length grantees.old.items }
     ensures ok { OnOk result (grantees.new.items ≡ insert grantees.old.items i (grantee ua (grant ∷ []))) }
+    ensures alone { grantees.new.alone ≡ grantees.old.alone }
     ensures err { OnErr result (grantees.new.items ≡ grantees.old.items) }
 {
-    let alloc = *grantees.allocator();
-    let first = first_grant(alloc, ua, grant)?;
-    grantees.insert(i, first)?;
-    Ok(())
+    let first = first_grant(grantees.allocator(), ua, grant)?;
+    grantees.insert(i, first)
 }
 
 /// Puts an association behind the others of its user attribute.
-pub(crate) fn add(grantees: &mut Vec<Grantee>, ua: ElementId, grant: Grant) -> Result<(), Memory>
+pub(crate) fn add(
+    grantees: &mut PageList<Grantee>,
+    ua: ElementId,
+    grant: Grant,
+) -> Result<(), Memory>
     requires { AreGrantees 0 grantees.old.items }
     ensures ok { OnOk result (associations_of grantees.new.items ≡ joined (association ua grant) (associations_of grantees.old.items)) }
     ensures ordered { OnOk result (AreGrantees 0 grantees.new.items) }
+    ensures alone { grantees.new.alone ≡ grantees.old.alone }
     ensures err { OnErr result (grantees.new.items ≡ grantees.old.items) }
 {
     match locate(grantees, ua) {
@@ -112,61 +132,66 @@ fn take_out(grants: &mut ItemList<Grant>, at: ElementId) -> usize
     before - grants.len()
 }
 
-/// Takes those on the element from the associations of the user attribute at a place, and says how
-/// many there were.
-fn drop_grants(grantees: &mut Vec<Grantee>, i: usize, at: ElementId) -> usize
-    requires { i < length grantees.old.items }
-    ensures grantees { grantees.new.items ≡ edited (without_grant at) i grantees.old.items }
-    ensures count { length (associations_of grantees.new.items) + result ≡ length (associations_of grantees.old.items) }
+/// Takes the associations on the element from those of the user attribute, and says how many there
+/// were.
+fn drop_grants(grantee: &mut Grantee, at: ElementId) -> usize
+    ensures rest { grantee.new ≡ without_grant at grantee.old }
+    ensures count { length (grants_off at grantee.old.grants) + result ≡ length grantee.old.grants }
 {
-    let grantee = &mut grantees[i];
     take_out(&mut grantee.grants, at)
 }
 
-/// Takes the user attribute at a place away if it has no association left.
-fn drop_empty(grantees: &mut Vec<Grantee>, i: usize)
-    requires { i < length grantees.old.items }
-    ensures { grantees.new.items ≡ without_empty i grantees.old.items }
+/// Whether the user attribute has no association.
+fn is_bare(grantee: &Grantee) -> bool
+    ensures { result ≡ (length grantee.now.grants == 0) }
 {
-    if grantees[i].grants.len() == 0 {
+    grantee.grants.len() == 0
+}
+
+/// Takes the user attribute at a place away if it has no association left.
+fn drop_empty(grantees: &mut PageList<Grantee>, i: usize)
+    requires there { i < length grantees.old.items }
+    requires own { IsOwn grantees.old i }
+    ensures items { grantees.new.items ≡ without_empty i grantees.old.items }
+    ensures alone { grantees.new.alone ≡ grantees.old.alone }
+{
+    if is_bare(grantees.at(i)) {
         let _empty = grantees.remove(i);
     }
 }
 
+/// Takes the associations on the element from those of the user attribute at a place, which goes with
+/// its last. Says how many there were.
+fn remove_at(grantees: &mut PageList<Grantee>, i: usize, at: ElementId) -> Result<usize, Memory>
+    requires { i < length grantees.old.items }
+    ensures items { OnOk result (grantees.new.items ≡ without_empty i (edited (without_grant at) i grantees.old.items)) }
+    ensures count { IfOk result (λ gone. length (associations_of grantees.new.items) + gone ≡ length (associations_of grantees.old.items)) }
+    ensures alone { grantees.new.alone ≡ grantees.old.alone }
+    ensures sure { grantees.old.alone ≡ true → IsOk result }
+    ensures err { OnErr result (grantees.new.items ≡ grantees.old.items) }
+{
+    grantees.own_at(i)?;
+    let gone = drop_grants(grantees.edit(i), at);
+    drop_empty(grantees, i);
+    Ok(gone)
+}
+
 /// Takes the associations of the user attribute on the element away, and says how many there were.
-pub(crate) fn remove(grantees: &mut Vec<Grantee>, ua: ElementId, at: ElementId) -> usize
+pub(crate) fn remove(
+    grantees: &mut PageList<Grantee>,
+    ua: ElementId,
+    at: ElementId,
+) -> Result<usize, Memory>
     requires { AreGrantees 0 grantees.old.items }
-    ensures gone { associations_of grantees.new.items ≡ filter (λ a. not (joins ua at a)) (associations_of grantees.old.items) }
-    ensures ordered { AreGrantees 0 grantees.new.items }
-    ensures count { length (associations_of grantees.new.items) + result ≡ length (associations_of grantees.old.items) }
+    ensures gone { OnOk result (associations_of grantees.new.items ≡ filter (λ a. not (joins ua at a)) (associations_of grantees.old.items)) }
+    ensures ordered { OnOk result (AreGrantees 0 grantees.new.items) }
+    ensures count { IfOk result (λ gone. length (associations_of grantees.new.items) + gone ≡ length (associations_of grantees.old.items)) }
+    ensures alone { grantees.new.alone ≡ grantees.old.alone }
+    ensures sure { grantees.old.alone ≡ true → IsOk result }
+    ensures err { OnErr result (grantees.new.items ≡ grantees.old.items) }
 {
     match locate(grantees, ua) {
-        Ok(i) => {
-            let gone = drop_grants(grantees, i, at);
-            drop_empty(grantees, i);
-            gone
-        }
-        Err(_) => 0,
+        Ok(i) => remove_at(grantees, i, at),
+        Err(_) => Ok(0),
     }
-}
-
-/// The same user attribute with its associations once more.
-fn copy_of(grantee: &Grantee) -> Result<Grantee, Memory>
-    ensures { IfOk result (λ same. same ≡ grantee.now) }
-{
-    Ok(Grantee {
-        ua: grantee.ua,
-        grants: grantee.grants.copy()?,
-    })
-}
-
-/// The same user attributes once more.
-pub(crate) fn copy_all(grantees: &Vec<Grantee>) -> Result<Vec<Grantee>, Memory>
-    ensures { IfOk result (λ same. same.items ≡ grantees.now.items) }
-{
-    let mut same = Vec::new(*grantees.allocator());
-    for grantee in grantees {
-        same.push(copy_of(grantee)?)?;
-    }
-    Ok(same)
 }

@@ -4,6 +4,7 @@
 mod checks;
 mod errors;
 mod grantees;
+mod search;
 mod table;
 
 pub use errors::{AssocError, change_error};

@@ -1,6 +1,6 @@
 //! The table: its associations by user attribute, and how many there are.
 
-ghost use Rattle.std.specs.Prelude.{◌≡◌, ◌≢◌, [], None, OnOk, OnErr, IfOk, IfErr, length, filter, not};
+ghost use Rattle.std.specs.Prelude.{◌≡◌, ◌≢◌, [], true, false, None, OnOk, OnErr, IfOk, IfErr, length, filter, not};
 ghost use Rattle.std.specs.List.{list_any};
 ghost use Rattle.pm_model.specs.Results.{first_of};
 ghost use Rattle.pm_model.specs.Decision.{associations_of};
@@ -9,28 +9,33 @@ ghost use Rattle.pm_assoc.specs.Grantees.{AreGrantees};
 ghost use Rattle.pm_assoc.specs.Told.{told};
 
 use crate::errors::AssocError;
-use crate::grantees::{add, copy_all, has, is_named, remove};
+use crate::grantees::{add, has, is_named, remove};
 use pm_model::{ElementId, Grant, Grantee, Grants, Memory, Rights};
+use pm_pages::PageList;
 use std::alloc::Global;
 use std::marker::Model;
 
+/// How many user attributes stand in a page.
+const ROOM: usize = 64;
+
 /// The associations: at most one of a user attribute on an element, and at most 65,536. Contracts see
-/// the user attributes that have associations, by rising number, each with its own in order of creation.
+/// the user attributes that have associations, by rising number, each with its own in order of creation,
+/// and whether the table shares its pages with copies: where it stands alone, nothing is taken away at
+/// the cost of memory.
 #[derive(Drop)]
 pub struct Assoc {
-    grantees: Vec<Grantee>,
+    grantees: PageList<Grantee>,
     count: usize,
 }
 
 impl Model for Assoc {
-    ghost use Rattle.std.specs.Prelude.{List};
-    ghost use Rattle.pm_model.specs.declared.rights.Grantee.{Grantee};
+    ghost use Rattle.pm_assoc.specs.Shown.{Shown};
 
-    ghost Value = { List Grantee };
+    ghost Value = { Shown };
 
-    ghost use Rattle.pm_assoc.specs.Kept.{IsKept};
+    ghost use Rattle.pm_assoc.specs.Kept.{shown, IsKept};
 
-    ghost view = { λ t. t.grantees.items };
+    ghost view = { shown };
 
     ghost invariant = { IsKept };
 }
@@ -38,10 +43,11 @@ impl Model for Assoc {
 impl Assoc {
     /// The table without associations, which takes no memory.
     pub fn new(alloc: Global) -> Self
-        ensures { result ≡ [] }
+        ensures grantees { result.grantees ≡ [] }
+        ensures alone { result.alone ≡ true }
     {
         Assoc {
-            grantees: Vec::new(alloc),
+            grantees: PageList::new(alloc, ROOM),
             count: 0,
         }
     }
@@ -49,7 +55,7 @@ impl Assoc {
     /// Does nothing. Its contract is what each table keeps: the user attributes rise, and each has an
     /// association.
     pub fn kept(&self)
-        ensures { AreGrantees 0 self.now }
+        ensures { AreGrantees 0 self.now.grantees }
     {
         let _ = &self.grantees;
     }
@@ -62,9 +68,10 @@ impl Assoc {
         rights: Rights,
         at: ElementId,
     ) -> Result<(), AssocError>
-        ensures fits { OnOk result (first_of (associate_checks (associations_of self.old) ua at) ≡ None) }
-        ensures ok { OnOk result (associations_of self.new ≡ joined (record { ua = ua; rights = rights; at = at }) (associations_of self.old)) }
-        ensures refused { IfErr result (λ e. IsCause (first_of (associate_checks (associations_of self.old) ua at)) (told e)) }
+        ensures fits { OnOk result (first_of (associate_checks (associations_of self.old.grantees) ua at) ≡ None) }
+        ensures ok { OnOk result (associations_of self.new.grantees ≡ joined (record { ua = ua; rights = rights; at = at }) (associations_of self.old.grantees)) }
+        ensures alone { self.new.alone ≡ self.old.alone }
+        ensures refused { IfErr result (λ e. IsCause (first_of (associate_checks (associations_of self.old.grantees) ua at)) (told e)) }
         ensures err { OnErr result (self.new ≡ self.old) }
     {
         self.check_associate(ua, at)?;
@@ -74,59 +81,72 @@ impl Assoc {
     }
 
     /// Takes the association of the user attribute on the element away. `Absent` comes where
-    /// `check_dissociate` says so. It takes no memory.
+    /// `check_dissociate` says so; the only other error is `Memory`, and none where the table stands
+    /// alone.
     pub fn dissociate(&mut self, ua: ElementId, at: ElementId) -> Result<(), AssocError>
-        ensures fits { OnOk result (first_of (dissociate_checks (associations_of self.old) ua at) ≡ None) }
-        ensures ok { OnOk result (associations_of self.new ≡ filter (λ a. not (joins ua at a)) (associations_of self.old)) }
-        ensures refused { IfErr result (λ e. IsCause (first_of (dissociate_checks (associations_of self.old) ua at)) (told e)) }
-        ensures no_memory { IfErr result (λ e. e ≢ AssocError.Memory) }
+        ensures fits { OnOk result (first_of (dissociate_checks (associations_of self.old.grantees) ua at) ≡ None) }
+        ensures ok { OnOk result (associations_of self.new.grantees ≡ filter (λ a. not (joins ua at a)) (associations_of self.old.grantees)) }
+        ensures alone { self.new.alone ≡ self.old.alone }
+        ensures refused { IfErr result (λ e. IsCause (first_of (dissociate_checks (associations_of self.old.grantees) ua at)) (told e)) }
+        ensures no_memory { self.old.alone ≡ true → IfErr result (λ e. e ≢ AssocError.Memory) }
         ensures err { OnErr result (self.new ≡ self.old) }
     {
         self.check_dissociate(ua, at)?;
-        self.count -= remove(&mut self.grantees, ua, at);
+        let gone = remove(&mut self.grantees, ua, at)?;
+        self.count -= gone;
         Ok(())
     }
 
     /// Whether some association has the element at either end.
     pub fn names(&self, id: ElementId) -> bool
-        ensures { result ≡ list_any (has_end id) (associations_of self.now) }
+        ensures { result ≡ list_any (has_end id) (associations_of self.now.grantees) }
     {
         is_named(&self.grantees, id)
     }
 
     /// How many associations there are: at most 65,536.
     pub fn len(&self) -> usize
-        ensures { result ≡ length (associations_of self.now) }
+        ensures { result ≡ length (associations_of self.now.grantees) }
     {
         self.count
     }
 
-    /// The same table once more.
+    /// Lets copies share the associations. It takes memory for each page that no copy shares. On Memory
+    /// some pages may be shared.
+    pub fn share(&mut self) -> Result<(), Memory>
+        ensures grantees { self.new.grantees ≡ self.old.grantees }
+        ensures alone { self.new.alone ≡ false }
+    {
+        self.grantees.share()
+    }
+
+    /// The same table once more. It shares the pages that are shared.
     pub fn copy(&self) -> Result<Assoc, Memory>
-        ensures { IfOk result (λ same. same ≡ self.now) }
+        ensures grantees { IfOk result (λ same. same.grantees ≡ self.now.grantees) }
+        ensures alone { IfOk result (λ same. same.alone ≡ false) }
     {
         Ok(Assoc {
-            grantees: copy_all(&self.grantees)?,
+            grantees: self.grantees.copy()?,
             count: self.count,
         })
     }
 
     /// Whether the user attribute has an association on the element.
     pub(crate) fn has(&self, ua: ElementId, at: ElementId) -> bool
-        ensures { result ≡ list_any (joins ua at) (associations_of self.now) }
+        ensures { result ≡ list_any (joins ua at) (associations_of self.now.grantees) }
     {
         has(&self.grantees, ua, at)
     }
 }
 
 impl Grants for Assoc {
-    ghost grantees = { λ t. t };
+    ghost grantees = { λ t. t.grantees };
 
     fn grantee_count(&self) -> usize {
         self.grantees.len()
     }
 
-    fn grantee(&self, i: usize) -> &Grantee {
-        &self.grantees[i]
+    fn grantees_from(&self, i: usize) -> &[Grantee] {
+        self.grantees.run(i)
     }
 }

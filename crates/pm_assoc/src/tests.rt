@@ -21,7 +21,7 @@ fn table_of(alloc: Global, rows: &[Row]) -> Result<Assoc, AssocError> {
 fn rows_of(alloc: Global, table: &Assoc) -> Result<Vec<Row>, Memory> {
     let mut rows = Vec::new(alloc);
     for i in 0..table.grantee_count() {
-        let grantee = table.grantee(i);
+        let grantee = &table.grantees_from(i)[0];
         for grant in grantee.grants.as_slice() {
             rows.push((grantee.ua.number(), grant.rights.0, grant.at.number()))?;
         }
@@ -128,18 +128,52 @@ fn names_both_ends(rt: HostRuntime) -> Result<(), Fail> {
 }
 
 #[test]
-fn a_copy_is_another_table(rt: HostRuntime) -> Result<(), Fail> {
+fn copies_go_apart(rt: HostRuntime) -> Result<(), Fail> {
     let mut table = table_of(rt.alloc(), &[(2, 1, 9), (2, 6, 4)])?;
+    table.share()?;
     let mut copy = table.copy()?;
     table.dissociate(ElementId(2), ElementId(9))?;
     copy.associate(ElementId(5), Rights(1), ElementId(1))?;
+    copy.associate(ElementId(2), Rights(3), ElementId(8))?;
     let rows = rows_of(rt.alloc(), &table)?;
     let copied = rows_of(rt.alloc(), &copy)?;
     assert_eq!(rt; rows.as_slice(), [(2, 6, 4)].as_slice());
     assert_eq!(rt;
         copied.as_slice(),
-        [(2, 1, 9), (2, 6, 4), (5, 1, 1)].as_slice()
+        [(2, 1, 9), (2, 6, 4), (2, 3, 8), (5, 1, 1)].as_slice()
     );
+    assert_eq!(rt; table.len(), 1);
+    assert_eq!(rt; copy.len(), 4);
+    Ok(())
+}
+
+/// A table in many pages, of which the copy shares all but those that changed.
+#[test]
+fn copies_of_many_attributes_go_apart(rt: HostRuntime) -> Result<(), Fail> {
+    let mut table = Assoc::new(rt.alloc());
+    for ua in 0..1000 {
+        table.associate(ElementId(ua), Rights(1), ElementId(5000))?;
+    }
+    table.share()?;
+    let mut copy = table.copy()?;
+    for ua in 300..700 {
+        copy.dissociate(ElementId(ua), ElementId(5000))?;
+    }
+    table.associate(ElementId(999), Rights(1), ElementId(6000))?;
+    assert_eq!(rt; table.grantee_count(), 1000);
+    assert_eq!(rt; copy.grantee_count(), 600);
+    for (ua, in_copy) in [
+        (0, true),
+        (299, true),
+        (300, false),
+        (699, false),
+        (700, true),
+    ] {
+        assert!(rt; table.names(ElementId(ua)), "{ua}");
+        assert_eq!(rt; copy.names(ElementId(ua)), in_copy, "{ua}");
+    }
+    assert!(rt; table.names(ElementId(6000)));
+    assert!(rt; !copy.names(ElementId(6000)));
     Ok(())
 }
 

@@ -17,8 +17,8 @@ impl Deny {
     /// Whether the prohibition could be made: `NameTaken` where one has its name, `EmptyRange` where
     /// neither of its sets has an element, `Full` where there are 4,096, in this order.
     pub fn check_prohibit(&self, item: &Prohibition) -> Result<(), DenyError>
-        ensures fits { OnOk result (first_of (prohibit_checks self.now item.now) ≡ None) }
-        ensures refused { IfErr result (λ e. IsCause (first_of (prohibit_checks self.now item.now)) (told e)) }
+        ensures fits { OnOk result (first_of (prohibit_checks self.now.items item.now) ≡ None) }
+        ensures refused { IfErr result (λ e. IsCause (first_of (prohibit_checks self.now.items item.now)) (told e)) }
         ensures no_memory { IfErr result (λ e. e ≢ DenyError.Memory) }
     {
         if self.has_name(item.name) {

@@ -1,10 +1,13 @@
-//! What is asked of one prohibition, and a list of them copied or thinned out.
+//! What is asked of one prohibition, and a list of them sought through or thinned out.
 
-ghost use Rattle.std.specs.Prelude.{◌≡◌, ◌==◌, ◌||◌, IfOk, IfSome, ◌<◌, ◌≤◌, length};
-ghost use Rattle.std.specs.List.{list_any};
+ghost use Rattle.std.specs.Prelude.{◌≡◌, ◌==◌, ◌||◌, ◌<◌, ◌≤◌, true, Some, OnOk, OnErr, IfOk, IfSome, IsOk, length, slice_get};
+ghost use Rattle.std.specs.List.{list_any, remove};
 ghost use Rattle.pm_model.specs.Prohibitions.{is_called, place_called, has_empty_range, is_process_in, is_subject, names_element, without_processes};
+ghost use Rattle.pm_pages.specs.Paged.{OwnWhere};
+ghost use Rattle.pm_deny.specs.Ended.{is_on};
 
 use pm_model::{ElementId, Memory, Name, PlaceList, Prohibition, Subject};
+use pm_pages::PageList;
 
 /// Whether the prohibition has the name.
 fn is_called(item: &Prohibition, name: Name) -> bool
@@ -13,19 +16,28 @@ fn is_called(item: &Prohibition, name: Name) -> bool
     name == item.name
 }
 
-/// Whether some prohibition has the name.
-pub(crate) fn has_name(items: &Vec<Prohibition>, name: Name) -> bool
-    ensures { result ≡ list_any (is_called name) items.now.items }
+/// The place of the prohibition of the name among those of a page.
+fn place_among(items: &[Prohibition], name: Name) -> Option<usize>
+    ensures value { result ≡ place_called items.now name }
+    ensures below { IfSome result (λ i. i < length items.now) }
 {
-    items.iter().any(|item| is_called(item, name))
+    items.iter().position(|item| is_called(item, name))
 }
 
 /// The place of the prohibition of the name.
-pub(crate) fn place(items: &Vec<Prohibition>, name: Name) -> Option<usize>
+pub(crate) fn place(items: &PageList<Prohibition>, name: Name) -> Option<usize>
     ensures value { result ≡ place_called items.now.items name }
     ensures below { IfSome result (λ i. i < length items.now.items) }
 {
-    items.iter().position(|item| is_called(item, name))
+    let mut begin = 0;
+    while begin < items.len() {
+        let run = items.run(begin);
+        if let Some(i) = place_among(run, name) {
+            return Some(begin + i);
+        }
+        begin += run.len();
+    }
+    None
 }
 
 /// Whether neither set has an element.
@@ -67,11 +79,26 @@ fn names_element(item: &Prohibition, id: ElementId) -> bool
     is_subject_or_included(item, id) || is_among(&item.exc, id)
 }
 
-/// Whether some prohibition names the element.
-pub(crate) fn is_named(items: &Vec<Prohibition>, id: ElementId) -> bool
-    ensures { result ≡ list_any (names_element id) items.now.items }
+/// Whether some prohibition of a page names the element.
+fn is_named_among(items: &[Prohibition], id: ElementId) -> bool
+    ensures { result ≡ list_any (names_element id) items.now }
 {
     items.iter().any(|item| names_element(item, id))
+}
+
+/// Whether some prohibition names the element.
+pub(crate) fn is_named(items: &PageList<Prohibition>, id: ElementId) -> bool
+    ensures { result ≡ list_any (names_element id) items.now.items }
+{
+    let mut begin = 0;
+    while begin < items.len() {
+        let run = items.run(begin);
+        if is_named_among(run, id) {
+            return true;
+        }
+        begin += run.len();
+    }
+    false
 }
 
 /// Whether the process is among the numbers.
@@ -91,21 +118,35 @@ fn is_process_in(ended: &[u32], subject: Subject<ElementId, u32>) -> bool
     }
 }
 
-/// Takes the prohibitions on these processes away.
-pub(crate) fn drop_processes(items: &mut Vec<Prohibition>, ended: &[u32])
-    ensures left { items.new.items ≡ without_processes ended.now items.old.items }
-    ensures fewer { length items.new.items ≤ length items.old.items }
+/// Makes ready that the prohibitions on these processes go.
+pub(crate) fn own_processes(items: &mut PageList<Prohibition>, ended: &[u32]) -> Result<(), Memory>
+    ensures items { items.new.items ≡ items.old.items }
+    ensures alone { items.new.alone ≡ items.old.alone }
+    ensures ok { OnOk result (OwnWhere (is_on ended.now) items.new) }
+    ensures sure { items.old.alone ≡ true → IsOk result }
 {
-    items.retain(|item| !is_process_in(ended, item.subject));
+    items.own_where(&|item: &Prohibition| is_process_in(ended, item.subject))
 }
 
-/// The same prohibitions once more.
-pub(crate) fn copy_all(items: &Vec<Prohibition>) -> Result<Vec<Prohibition>, Memory>
-    ensures { IfOk result (λ same. same.items ≡ items.now.items) }
+/// Takes the prohibitions on these processes away.
+pub(crate) fn drop_processes(items: &mut PageList<Prohibition>, ended: &[u32])
+    requires { OwnWhere (is_on ended.now) items.old }
+    ensures left { items.new.items ≡ without_processes ended.now items.old.items }
+    ensures fewer { length items.new.items ≤ length items.old.items }
+    ensures alone { items.new.alone ≡ items.old.alone }
 {
-    let mut same = Vec::new(*items.allocator());
-    for item in items {
-        same.push(item.copy()?)?;
-    }
-    Ok(same)
+    items.remove_where(&|item: &Prohibition| is_process_in(ended, item.subject));
+}
+
+/// Takes the prohibition at a place out.
+pub(crate) fn take(items: &mut PageList<Prohibition>, i: usize) -> Result<Prohibition, Memory>
+    requires { i < length items.old.items }
+    ensures item { IfOk result (λ item. slice_get items.old.items i ≡ Some item) }
+    ensures rest { OnOk result (items.new.items ≡ remove items.old.items i) }
+    ensures alone { items.new.alone ≡ items.old.alone }
+    ensures sure { items.old.alone ≡ true → IsOk result }
+    ensures err { OnErr result (items.new.items ≡ items.old.items) }
+{
+    items.own_at(i)?;
+    Ok(items.remove(i))
 }

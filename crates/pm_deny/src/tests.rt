@@ -65,6 +65,13 @@ fn names_of(alloc: Global, list: &Deny) -> Result<Vec<u8>, Memory> {
     Ok(names)
 }
 
+/// Ends these processes.
+fn end(list: &mut Deny, ended: &[u32]) -> Result<(), Memory> {
+    list.own_processes(ended)?;
+    list.lift_processes(ended);
+    Ok(())
+}
+
 const ROWS: [Row; 6] = [
     ("a", Subject::Process(1), 1, &[3], &[]),
     ("b", Subject::User(ElementId(1)), 1, &[], &[4]),
@@ -135,10 +142,10 @@ fn lift_gives_the_prohibition(rt: HostRuntime) -> Result<(), Fail> {
 #[test]
 fn processes_end_with_their_prohibitions(rt: HostRuntime) -> Result<(), Fail> {
     let mut list = list_of(&rt, &ROWS)?;
-    list.lift_process(1);
+    end(&mut list, &[1])?;
     assert_eq!(rt; names_of(rt.alloc(), &list)?.as_slice(), b"bcdf".as_slice());
-    list.lift_process(1);
-    list.lift_processes(&[11, 1, 2, 3]);
+    end(&mut list, &[1])?;
+    end(&mut list, &[11, 1, 2, 3])?;
     assert_eq!(rt; names_of(rt.alloc(), &list)?.as_slice(), b"bd".as_slice());
     Ok(())
 }
@@ -201,9 +208,10 @@ fn the_first_of_two_applies(rt: HostRuntime) -> Result<(), Fail> {
 #[test]
 fn a_copy_is_another_list(rt: HostRuntime) -> Result<(), Fail> {
     let mut list = list_of(&rt, &ROWS)?;
+    list.share()?;
     let mut copy = list.copy()?;
     let place = list.find(named(&rt, "a")).expect(&rt, "a place");
-    let first = list.lift_at(place);
+    let first = list.lift_at(place)?;
     assert!(rt; first.subject == Subject::Process(1));
     assert_eq!(rt;
         names_of(rt.alloc(), &list)?.as_slice(),
@@ -240,8 +248,11 @@ fn holds_4096_prohibitions(rt: HostRuntime) -> Result<(), Fail> {
         list.prohibit(item_of(&rt, &ROWS[0])?),
         Err(DenyError::Full)
     );
-    list.lift_process(1);
+    list.share()?;
+    let copy = list.copy()?;
+    end(&mut list, &[1])?;
     assert_eq!(rt; list.len(), 0);
+    assert_eq!(rt; copy.find(numbered(&rt, 4095)), Some(4095));
     Ok(())
 }
 

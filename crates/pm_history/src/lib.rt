@@ -1,19 +1,24 @@
-//! The history: the accepted requests, in order. Copies share the entries.
+//! The history: the accepted requests, in order. Copies share the entries, and whole pages of them.
 #![tactic(auto)]
 
-ghost use Rattle.std.specs.Prelude.{◌≡◌, ◌≤◌, ◌<◌, [], ◌∷◌, ◌++◌, OnOk, OnErr, IfErr, IfOk, length, slice_get, map, take, ◌-◌};
-ghost use Rattle.std.specs.Arc.{arc_value};
+ghost use Rattle.std.specs.Prelude.{◌≡◌, ◌≤◌, ◌<◌, [], ◌∷◌, ◌++◌, OnOk, OnErr, IfErr, IfOk, length, slice_get, take, ◌+◌, ◌-◌};
 ghost use Rattle.std.specs.Option.{option_copied};
 ghost use Rattle.pm_model.specs.Answer.{longest_history};
 
+mod shared;
+
+use crate::shared::SharedEntry;
 use pm_model::{Entry, Memory};
+use pm_pages::PageList;
 use std::alloc::Global;
 use std::marker::Model;
-use std::sync::Arc;
 use thiserror::Error;
 
 #[cfg(test)]
 mod tests;
+
+/// How many entries stand in a page.
+const ROOM: usize = 1024;
 
 /// Why an entry was not put into the history. The history is as before, and the entry is dropped.
 #[derive(Clone, Copy, Debug, PartialEq, Eq, Error)]
@@ -25,10 +30,13 @@ pub enum HistoryError {
 }
 
 /// Accepted requests, in order, up to a limit. A copy shares the entries, and neither sees what the
-/// other gets or lets go from then on. An entry is freed with the last history that has it.
+/// other gets or lets go from then on. An entry is freed with the last history that has it; one that
+/// was taken back out is freed at the next push at the latest.
 #[derive(Drop)]
 pub struct History {
-    entries: Vec<Arc<Entry>>,
+    /// Behind the first `count` there may be entries that were taken back.
+    entries: PageList<SharedEntry>,
+    count: usize,
     limit: u64,
 }
 
@@ -42,15 +50,41 @@ impl Model for History {
     ghost invariant = { IsKept };
 }
 
-fn copied(alloc: Global, entries: &[Arc<Entry>]) -> Result<Vec<Arc<Entry>>, Memory>
-    ensures { IfOk result (λ same. map arc_value same.items ≡ map arc_value entries.now) }
+/// Puts an entry behind the first ones, in the place of one that was taken back if there is one.
+fn put(entries: &mut PageList<SharedEntry>, count: usize, entry: SharedEntry) -> Result<(), Memory>
+    requires { count ≤ length entries.old.items }
+    ensures ok { OnOk result (take (count + 1) entries.new.items ≡ take count entries.old.items ++ entry ∷ []) }
+    ensures held { OnOk result (count < length entries.new.items) }
+    ensures err { OnErr result (entries.new.items ≡ entries.old.items) }
 {
-    let mut same = Vec::with_capacity(alloc, entries.len())?;
-    for entry in entries {
-        let pointer = Arc::try_clone(entry)?;
-        same.push(pointer)?;
+    if count < entries.len() {
+        entries.own_at(count)?;
+        *entries.edit(count) = entry;
+        return Ok(());
     }
-    Ok(same)
+    entries.push(entry)
+}
+
+/// Lets copies share the pages where the last one is full.
+fn share_full(entries: &mut PageList<SharedEntry>, count: usize) -> Result<(), Memory>
+    ensures { entries.new.items ≡ entries.old.items }
+{
+    if count % ROOM == 0 {
+        return entries.share();
+    }
+    Ok(())
+}
+
+/// Makes an entry that histories share, and puts it behind the first ones.
+fn put_new(entries: &mut PageList<SharedEntry>, count: usize, entry: Entry) -> Result<(), Memory>
+    requires { count ≤ length entries.old.items }
+    ensures ok { OnOk result (take (count + 1) entries.new.items ≡ take count entries.old.items ++ entry ∷ []) }
+    ensures held { OnOk result (count < length entries.new.items) }
+    ensures err { OnErr result (entries.new.items ≡ entries.old.items) }
+{
+    let shared = SharedEntry::new(entries.allocator(), entry)?;
+    share_full(entries, count)?;
+    put(entries, count, shared)
 }
 
 impl History {
@@ -61,7 +95,8 @@ impl History {
         ensures { result ≡ record { entries = []; limit = limit } }
     {
         History {
-            entries: Vec::new(alloc),
+            entries: PageList::new(alloc, ROOM),
+            count: 0,
             limit,
         }
     }
@@ -71,7 +106,7 @@ impl History {
         ensures value { result ≡ length self.now.entries }
         ensures within { result ≤ self.now.limit }
     {
-        self.entries.len() as u64
+        self.count as u64
     }
 
     /// How many entries it may have.
@@ -86,12 +121,17 @@ impl History {
     pub fn get(&self, i: u64) -> Option<&Entry>
         ensures { option_copied result ≡ slice_get self.now.entries i }
     {
-        let entry = self.entries.get(i as usize)?;
-        Some(&**entry)
+        if i >= self.count as u64 {
+            return None;
+        }
+        let shared = self.entries.at(i as usize);
+        Some(shared.entry())
     }
 
     /// Puts an entry at the end. `Full` exactly where there are as many entries as the limit says; the
-    /// only other error is `Memory`. It takes memory for the entry, and now and then for more places.
+    /// only other error is `Memory`. It takes memory for the entry, now and then for more places, and
+    /// for up to 1,024 places where copies share the last page. A full page is shared from the next
+    /// push on.
     pub fn push(&mut self, entry: Entry) -> Result<(), HistoryError>
         ensures room { OnOk result (length self.old.entries < self.old.limit) }
         ensures ok { OnOk result (self.new ≡ record self.old { entries = self.old.entries ++ entry ∷ [] }) }
@@ -99,15 +139,14 @@ impl History {
         ensures memory { IfErr result (λ e. e ≡ HistoryError.Memory → length self.old.entries < self.old.limit) }
         ensures err { OnErr result (self.new ≡ self.old) }
     {
-        if self.entries.len() as u64 >= self.limit {
+        if self.count as u64 >= self.limit {
             return Err(HistoryError::Full);
         }
-        let alloc = *self.entries.allocator();
-        let Ok(shared) = Arc::new(alloc, entry) else {
-            return Err(HistoryError::Memory);
-        };
-        match self.entries.push(shared) {
-            Ok(()) => Ok(()),
+        match put_new(&mut self.entries, self.count, entry) {
+            Ok(()) => {
+                self.count += 1;
+                Ok(())
+            }
             Err(_) => Err(HistoryError::Memory),
         }
     }
@@ -117,19 +156,27 @@ impl History {
         requires { 0 < length self.old.entries }
         ensures { self.new ≡ record self.old { entries = take (length self.old.entries - 1) self.old.entries } }
     {
-        let _last = self.entries.pop();
+        self.count -= 1;
     }
 
-    /// The same history once more, with the same limit. It takes memory for the places alone, of 8
-    /// bytes each, and counts an owner more at each entry. `Memory` comes where there is none, or where
-    /// an entry has as many owners as can be counted.
+    /// Lets copies share all pages, so that a copy costs 8 bytes for each 1,024 entries. It takes
+    /// memory for each page that no copy shares. On Memory some pages may be shared.
+    pub fn share(&mut self) -> Result<(), Memory>
+        ensures { self.new ≡ self.old }
+    {
+        self.entries.share()
+    }
+
+    /// The same history once more, with the same limit. It takes memory for the pages' places, and for
+    /// those of the last page's entries where no `share` came before, of 8 bytes each: full pages are
+    /// shared in any case. `Memory` comes where there is none, or where an entry or a page has as many
+    /// owners as can be counted.
     pub fn copy(&self) -> Result<History, Memory>
         ensures { IfOk result (λ same. same ≡ self.now) }
     {
-        let alloc = *self.entries.allocator();
-        let entries = copied(alloc, &self.entries)?;
         Ok(History {
-            entries,
+            entries: self.entries.copy()?,
+            count: self.count,
             limit: self.limit,
         })
     }

@@ -1,7 +1,8 @@
-//! Histories of two or three entries, with answers worked out by hand.
+//! Histories with answers worked out by hand.
 
 use super::*;
 use pm_model::{Body, Name, Request};
+use std::alloc::Global;
 use std::process::Abort;
 use std::test::Fail;
 
@@ -117,5 +118,42 @@ fn take_back_leaves_the_others(rt: HostRuntime) -> Result<(), Fail> {
     assert_eq!(rt; at(&history, 1), None);
     assert_eq!(rt; history.push(end_of(3, 2, 9)), Ok(()));
     assert_eq!(rt; at(&history, 1), Some((3, 2)));
+    Ok(())
+}
+
+/// A history of so many entries, all of seat 4.
+fn history_of(alloc: Global, count: u64) -> Result<History, HistoryError> {
+    let mut history = History::new(alloc, 262144);
+    for nth in 0..count {
+        history.push(end_of(4, nth, 7))?;
+    }
+    Ok(history)
+}
+
+#[test]
+fn copies_go_apart_across_the_end_of_a_page(rt: HostRuntime) -> Result<(), Fail> {
+    for count in [1023, 1024, 1025] {
+        let mut history = history_of(rt.alloc(), count)?;
+        history.share()?;
+        let mut copy = history.copy()?;
+        history.push(end_of(3, 1, 8))?;
+        if copy.len() > 0 {
+            copy.take_back();
+        }
+        copy.push(end_of(5, 1, 9))?;
+        copy.push(end_of(5, 2, 9))?;
+        assert_eq!(rt; history.len(), count + 1);
+        assert_eq!(rt; copy.len(), count + 1);
+        for (i, one, other) in [
+            (0, Some((4, 0)), Some((4, 0))),
+            (count - 2, Some((4, count - 2)), Some((4, count - 2))),
+            (count - 1, Some((4, count - 1)), Some((5, 1))),
+            (count, Some((3, 1)), Some((5, 2))),
+            (count + 1, None, None),
+        ] {
+            assert_eq!(rt; at(&history, i), one, "at {i} of {count}");
+            assert_eq!(rt; at(&copy, i), other, "at {i} of the copy of {count}");
+        }
+    }
     Ok(())
 }

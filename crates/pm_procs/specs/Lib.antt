@@ -1,3 +1,4 @@
 pub mod Kept
 pub mod Rising
+pub mod Shown
 pub mod Told

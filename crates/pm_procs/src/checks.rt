@@ -18,8 +18,8 @@ const MAX_PROCESSES: usize = 16384;
 impl Procs {
     /// Whether a session could be opened: `Full` where there are 4,096.
     pub fn check_open(&self) -> Result<(), ProcsError>
-        ensures fits { OnOk result (first_of (open_checks self.now) ≡ None) }
-        ensures refused { IfErr result (λ e. IsCause (first_of (open_checks self.now)) (told UnknownSession e)) }
+        ensures fits { OnOk result (first_of (open_checks self.now.procs) ≡ None) }
+        ensures refused { IfErr result (λ e. IsCause (first_of (open_checks self.now.procs)) (told UnknownSession e)) }
         ensures no_memory { IfErr result (λ e. e ≢ ProcsError.Memory) }
     {
         if self.session_count() >= MAX_SESSIONS {
@@ -31,8 +31,8 @@ impl Procs {
     /// Whether the session could be closed: `Builtin` for session 0, else `Absent` where it isn't
     /// live.
     pub fn check_close(&self, session: u32) -> Result<(), ProcsError>
-        ensures fits { OnOk result (first_of (close_checks self.now session) ≡ None) }
-        ensures refused { IfErr result (λ e. IsCause (first_of (close_checks self.now session)) (told UnknownSession e)) }
+        ensures fits { OnOk result (first_of (close_checks self.now.procs session) ≡ None) }
+        ensures refused { IfErr result (λ e. IsCause (first_of (close_checks self.now.procs session)) (told UnknownSession e)) }
         ensures no_memory { IfErr result (λ e. e ≢ ProcsError.Memory) }
     {
         if session == 0 {
@@ -47,8 +47,8 @@ impl Procs {
     /// Whether a process of the session could be started: `Absent` where the session isn't live, else
     /// `Full` where there are 16,384 processes.
     pub fn check_start(&self, session: u32) -> Result<(), ProcsError>
-        ensures fits { OnOk result (first_of (start_checks self.now session) ≡ None) }
-        ensures refused { IfErr result (λ e. IsCause (first_of (start_checks self.now session)) (told UnknownSession e)) }
+        ensures fits { OnOk result (first_of (start_checks self.now.procs session) ≡ None) }
+        ensures refused { IfErr result (λ e. IsCause (first_of (start_checks self.now.procs session)) (told UnknownSession e)) }
         ensures no_memory { IfErr result (λ e. e ≢ ProcsError.Memory) }
     {
         if !self.session_live(session) {
@@ -63,8 +63,8 @@ impl Procs {
     /// Whether the process could be ended: `Builtin` for process 0, else `Absent` where it isn't
     /// live.
     pub fn check_end(&self, process: u32) -> Result<(), ProcsError>
-        ensures fits { OnOk result (first_of (end_checks self.now process) ≡ None) }
-        ensures refused { IfErr result (λ e. IsCause (first_of (end_checks self.now process)) (told UnknownProcess e)) }
+        ensures fits { OnOk result (first_of (end_checks self.now.procs process) ≡ None) }
+        ensures refused { IfErr result (λ e. IsCause (first_of (end_checks self.now.procs process)) (told UnknownProcess e)) }
         ensures no_memory { IfErr result (λ e. e ≢ ProcsError.Memory) }
     {
         if process == 0 {

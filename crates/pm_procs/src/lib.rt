@@ -5,6 +5,7 @@ mod checks;
 mod errors;
 mod numbered;
 mod table;
+mod walks;
 
 pub use errors::{ProcsError, change_error};
 pub use table::Procs;

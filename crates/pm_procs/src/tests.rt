@@ -12,9 +12,9 @@ const ANN: ElementId = ElementId(7);
 
 /// Opens this many sessions of a user.
 fn open_many(table: &mut Procs, user: ElementId, count: u32) -> Result<(), ProcsError>
-    requires { table.old.next_session + count < 100000 }
-    ensures next { OnOk result (table.new.next_session ≡ table.old.next_session + count) }
-    ensures same { table.new.next_process ≡ table.old.next_process }
+    requires { table.old.procs.next_session + count < 100000 }
+    ensures next { OnOk result (table.new.procs.next_session ≡ table.old.procs.next_session + count) }
+    ensures same { table.new.procs.next_process ≡ table.old.procs.next_process }
 {
     for _ in 0..count {
         table.open_session(user)?;
@@ -24,9 +24,9 @@ fn open_many(table: &mut Procs, user: ElementId, count: u32) -> Result<(), Procs
 
 /// Starts this many processes of a session.
 fn start_many(table: &mut Procs, session: u32, count: u32) -> Result<(), ProcsError>
-    requires { table.old.next_process + count < 100000 }
-    ensures next { OnOk result (table.new.next_process ≡ table.old.next_process + count) }
-    ensures same { table.new.next_session ≡ table.old.next_session }
+    requires { table.old.procs.next_process + count < 100000 }
+    ensures next { OnOk result (table.new.procs.next_process ≡ table.old.procs.next_process + count) }
+    ensures same { table.new.procs.next_session ≡ table.old.procs.next_session }
 {
     for _ in 0..count {
         table.start_process(session)?;
@@ -154,10 +154,15 @@ fn what_is_not_live_is_absent(rt: HostRuntime) -> Result<(), Fail> {
 fn a_copy_is_another_table(rt: HostRuntime) -> Result<(), Fail> {
     let mut table = Procs::opening(rt.alloc())?;
     open_many(&mut table, ANN, 1)?;
+    start_many(&mut table, 1, 2)?;
+    table.share()?;
     let mut copy = table.copy()?;
     table.close_session(1)?;
     assert!(rt; !table.has_session(ANN));
+    assert!(rt; !table.process_live(2));
     assert!(rt; copy.has_session(ANN));
+    copy.end_process(1)?;
+    assert_eq!(rt; copy.process_at(1), Some((2, 1)));
     assert_eq!(rt; copy.open_session(ANN), Ok(2));
     assert!(rt; !table.session_live(2));
     Ok(())

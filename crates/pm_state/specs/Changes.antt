@@ -9,13 +9,18 @@ use Rattle.pm_state.specs.Classes.{classes_after}
 use Rattle.pm_state.specs.Shown.{graph_of}
 use Rattle.pm_state.specs.declared.tables.Tables.{Tables}
 
+-- the same graph and classes; only which pages are the tables' own may have changed
+pub record IsSame (old new : Tables) : Type 0 where
+  pub graph : graph_of new ≡ graph_of old
+  pub classes : new.classes ≡ old.classes
+
 -- the change is made, or the first precondition that isn't met is told and all is as before
 pub record Changes (old new : Tables) (change : Change) (result : Result Made ChangeError) : Type 0 where
   pub ok : OnOk result (effect (graph_of old) change ≡ Ok (graph_of new))
   pub made : IfOk result (λ m. m ≡ made_by (graph_of old) change)
   pub classes : OnOk result (new.classes ≡ classes_after change old.classes)
   pub refused : IfErr result (IsCause (refusal (graph_of old) change))
-  pub err : OnErr result (new ≡ old)
+  pub err : OnErr result (IsSame old new)
 
 -- the preconditions are met, or the first one that isn't is told
 pub record Checks (tables : Tables) (change : Change) (result : Result Unit ChangeError) : Type 0 where

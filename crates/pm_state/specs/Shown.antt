@@ -8,8 +8,8 @@ graph_of t =
     record {
       elements = t.elements.elements;
       assigned = t.elements.assigned;
-      associations = associations_of t.assoc;
-      prohibitions = t.deny;
+      associations = associations_of t.assoc.grantees;
+      prohibitions = t.deny.items;
       rights = t.rights;
-      procs = t.procs;
+      procs = t.procs.procs;
     }

@@ -11,7 +11,8 @@ use pm_history::{History, HistoryError};
 use pm_model::{Change, ChangeError, Entry, Made};
 use std::marker::Model;
 
-/// A graph that changes are made in one after another, and the history before them.
+/// A copy of a state in which one change after another is made, to be one entry together or none. So far
+/// each request comes to one change, which [`State::enter`] makes in place: only tests make drafts.
 #[derive(Drop)]
 pub struct Draft {
     graph: Graph,

@@ -103,7 +103,7 @@ impl Tables {
 
     // Whether an association or a prohibition names the element.
     fn is_in_a_rule(&self, id: ElementId) -> bool
-        ensures { result ≡ (list_any (has_end id) (associations_of self.now.assoc) || list_any (names_element id) self.now.deny) }
+        ensures { result ≡ (list_any (has_end id) (associations_of self.now.assoc.grantees) || list_any (names_element id) self.now.deny.items) }
     {
         self.assoc.names(id) || self.deny.names(id)
     }

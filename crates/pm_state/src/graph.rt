@@ -67,28 +67,29 @@ impl Graph {
 
     /// The elements and their assignments.
     pub fn elements(&self) -> &Elements
-        ensures { result.now ≡ record { elements = self.now.elements; assigned = self.now.assigned } }
+        ensures elements { result.now.elements ≡ self.now.elements }
+        ensures assigned { result.now.assigned ≡ self.now.assigned }
     {
         &self.tables.elements
     }
 
     /// The associations.
     pub fn assoc(&self) -> &Assoc
-        ensures { associations_of result.now ≡ self.now.associations }
+        ensures { associations_of result.now.grantees ≡ self.now.associations }
     {
         &self.tables.assoc
     }
 
     /// The prohibitions, in order of creation.
     pub fn deny(&self) -> &Deny
-        ensures { result.now ≡ self.now.prohibitions }
+        ensures { result.now.items ≡ self.now.prohibitions }
     {
         &self.tables.deny
     }
 
     /// The sessions and their processes.
     pub fn procs(&self) -> &Procs
-        ensures { result.now ≡ self.now.procs }
+        ensures { result.now.procs ≡ self.now.procs }
     {
         &self.tables.procs
     }
@@ -115,7 +116,15 @@ impl Graph {
         &self.tables.classes
     }
 
-    /// The same graph once more.
+    /// Lets copies share the tables' pages.
+    pub(crate) fn share(&mut self) -> Result<(), Memory>
+        ensures { self.new ≡ self.old }
+    {
+        self.tables.share()?;
+        Ok(())
+    }
+
+    /// The same graph once more. What is shared is not copied.
     pub(crate) fn copy(&self) -> Result<Graph, Memory>
         ensures { IfOk result (λ same. same ≡ self.now) }
     {
@@ -124,7 +133,7 @@ impl Graph {
     }
 
     /// Tells the first precondition of a change that isn't met, and changes nothing.
-    pub fn check(&self, change: &Change) -> Result<(), ChangeError>
+    pub(crate) fn check(&self, change: &Change) -> Result<(), ChangeError>
         requires { IsNamed self.now change.now }
         ensures ok { OnOk result (refusal self.now change.now ≡ None) }
         ensures refused { IfErr result (IsCause (refusal self.now change.now)) }

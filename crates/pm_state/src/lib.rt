@@ -1,4 +1,4 @@
-//! The state of the policy machine: a version of its graph, and the draft of the next one.
+//! The state of the policy machine: a version of its graph, and the history that led to it.
 #![tactic(auto)]
 
 mod associations;

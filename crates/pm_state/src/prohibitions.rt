@@ -1,6 +1,6 @@
 //! Changes of prohibitions, and of the names of rights.
 
-ghost use Rattle.std.specs.Prelude.{◌≡◌, ◌<◌, Ok, length};
+ghost use Rattle.std.specs.Prelude.{◌≡◌, ◌<◌, length};
 ghost use Rattle.std.specs.List.{list_all};
 ghost use Rattle.pm_model.specs.State.{element_at};
 ghost use Rattle.pm_model.specs.Effect.{has_kind, has_subject_kind, is_place, is_place_kind, is_ua_kind, may_prohibit};
@@ -87,12 +87,14 @@ impl Tables {
         }
     }
 
-    pub(crate) fn lift(&mut self, index: u32) -> Made
-        requires { index < length self.old.deny }
-        ensures { Changes self.old self.new (Change.Lift index) (Ok result) }
+    pub(crate) fn lift(&mut self, index: u32) -> Result<Made, ChangeError>
+        requires { index < length self.old.deny.items }
+        ensures { Changes self.old self.new (Change.Lift index) result }
     {
-        self.deny.lift_at(index);
-        Made::Nothing
+        match self.deny.lift_at(index) {
+            Ok(_lifted) => Ok(Made::Nothing),
+            Err(Memory) => Err(ChangeError::Memory),
+        }
     }
 
     pub(crate) fn define_right(&mut self, name: Name) -> Result<Made, ChangeError>

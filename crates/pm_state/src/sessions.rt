@@ -48,10 +48,18 @@ impl Tables {
     pub(crate) fn close_session(&mut self, session: u32) -> Result<Made, ChangeError>
         ensures { Changes self.old self.new (Change.CloseSession session) result }
     {
+        match self.check_close_session(session) {
+            Ok(()) => {}
+            Err(error) => return Err(error),
+        }
         let ended = match self.procs.processes_of(session) {
             Ok(ended) => ended,
             Err(Memory) => return Err(ChangeError::Memory),
         };
+        match self.deny.own_processes(ended.as_slice()) {
+            Ok(()) => {}
+            Err(Memory) => return Err(ChangeError::Memory),
+        }
         match self.procs.close_session(session) {
             Ok(()) => {
                 self.deny.lift_processes(ended.as_slice());
@@ -92,9 +100,18 @@ impl Tables {
     pub(crate) fn end_process(&mut self, process: u32) -> Result<Made, ChangeError>
         ensures { Changes self.old self.new (Change.EndProcess process) result }
     {
+        match self.check_end_process(process) {
+            Ok(()) => {}
+            Err(error) => return Err(error),
+        }
+        let ended = [process];
+        match self.deny.own_processes(&ended) {
+            Ok(()) => {}
+            Err(Memory) => return Err(ChangeError::Memory),
+        }
         match self.procs.end_process(process) {
             Ok(()) => {
-                self.deny.lift_process(process);
+                self.deny.lift_processes(&ended);
                 Ok(Made::Nothing)
             }
             Err(error) => Err(change_error(error, Refusal::UnknownProcess)),

@@ -129,7 +129,18 @@ impl State {
         }
     }
 
-    /// The same state once more. The entries are shared.
+    /// Lets copies share what this state has: its tables in pages, and its entries. It takes memory for
+    /// each page that is the state's own, and none for what stands in it. On Memory some pages are shared,
+    /// and a later call goes on.
+    pub fn share(&mut self) -> Result<(), Memory>
+        ensures { self.new ≡ self.old }
+    {
+        self.graph.share()?;
+        self.history.share()
+    }
+
+    /// The same state once more. What is shared takes a pointer for each page, and the rest is copied: so
+    /// `share` comes first.
     pub fn copy(&self) -> Result<State, Memory>
         ensures { IfOk result (λ same. same ≡ self.now) }
     {

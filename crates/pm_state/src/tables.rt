@@ -1,7 +1,7 @@
 //! The tables, and what each change does to them. The methods for the changes stand by topic, in files of their own.
 ghost use Rattle.std.specs.Prelude.{◌≡◌, IfOk};
 ghost use Rattle.pm_model.specs.Formed.{IsNamed};
-ghost use Rattle.pm_state.specs.Changes.{Changes, Checks};
+ghost use Rattle.pm_state.specs.Changes.{Changes, Checks, IsSame};
 ghost use Rattle.pm_state.specs.Shown.{graph_of};
 
 use pm_assoc::Assoc;
@@ -23,6 +23,16 @@ pub(crate) struct Tables {
 }
 
 impl Tables {
+    /// Lets copies share the tables' pages. On Memory some may be shared.
+    pub(crate) fn share(&mut self) -> Result<(), Memory>
+        ensures { IsSame self.old self.new }
+    {
+        self.assoc.share()?;
+        self.deny.share()?;
+        self.procs.share()
+    }
+
+    /// The same tables once more. What is shared is not copied; the names of rights and the classes are.
     pub(crate) fn copy(&self) -> Result<Tables, Memory>
         ensures graph { IfOk result (λ same. graph_of same ≡ graph_of self.now) }
         ensures classes { IfOk result (λ same. same.classes ≡ self.now.classes) }
@@ -65,7 +75,7 @@ impl Tables {
             Change::StartProcess { session } => self.start_process(*session),
             Change::EndProcess { process } => self.end_process(*process),
             Change::Prohibit { item } => self.prohibit(item),
-            Change::Lift { index } => Ok(self.lift(*index)),
+            Change::Lift { index } => self.lift(*index),
             Change::DefineRight { name } => self.define_right(*name),
         }
     }

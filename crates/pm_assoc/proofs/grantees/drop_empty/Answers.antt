@@ -1,12 +1,12 @@
-use Rattle.std.proofs.Common.{◌∙◌, sym, ne_eqb}
+use Rattle.std.proofs.Common.{◌∙◌, sym}
 use Rattle.pm_assoc.proofs.Edits.{remove-empty, keep-full}
 use Rattle.pm_assoc.proofs.grantees.drop_empty.Goals as goal
 
-pub returns-then-len-eq0 : goal.returns-then-len-eq0
-returns-then-len-eq0 c =
+pub returns-then-is_bare-clause-items : goal.returns-then-is_bare-clause-items
+returns-then-is_bare-clause-items c =
     c.remove-empty.ensures.items
-    ∙ remove-empty c.args.grantees.now.items c.args.i c.index.result.now c.requires c.index.ensures (sym c.len.ensures ∙ c.if-len-eq0.true)
+    ∙ remove-empty c.args.grantees.now.items c.args.i c.at.result.now c.at.ensures (sym c.is_bare.ensures ∙ c.if-is_bare.true)
 
-pub returns-else-len-eq0 : goal.returns-else-len-eq0
-returns-else-len-eq0 c = keep-full c.args.grantees.now.items c.args.i c.index.result.now c.requires c.index.ensures
-    (ne_eqb _ 0 (λ none. c.if-len-eq0.false (c.len.ensures ∙ none)))
+pub returns-else-is_bare-clause-items : goal.returns-else-is_bare-clause-items
+returns-else-is_bare-clause-items c =
+    keep-full c.args.grantees.now.items c.args.i c.at.result.now c.at.ensures (sym c.is_bare.ensures ∙ c.if-is_bare.false)

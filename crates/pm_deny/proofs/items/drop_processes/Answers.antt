@@ -1,6 +1,8 @@
-use Rattle.std.proofs.Common.{rules}
-use Rattle.std.proofs.lemmas.Fn.{filter_same}
+use Rattle.std.proofs.Common.{not}
+use Rattle.pm_pages.proofs.Passing.{length_kept}
+use Rattle.pm_deny.specs.Ended.{is_on}
 use Rattle.pm_deny.proofs.items.drop_processes.Goals as goal
 
-pub returns-clause-left : goal.returns-clause-left
-returns-clause-left c = filter_same _ _ _ (λ x b f' k. search rules) _ _ c.retain.ensures.filtered
+pub returns-clause-fewer : goal.returns-clause-fewer
+returns-clause-fewer c =
+    rw c.remove_where.ensures.items (length_kept (λ p. not (is_on c.args.ended.now p)) c.args.items.now.items)

@@ -1,12 +1,17 @@
-use Rattle.std.proofs.Common.{◌∙◌, rules}
-use Rattle.std.proofs.lemmas.List.Sorted.{answers_always}
-use Rattle.pm_procs.proofs.Places.{searched}
+use Rattle.std.proofs.Common.{◌∙◌, arith}
+use Rattle.pm_procs.proofs.Places.{cut-at_end, cut-at_another, cut-at_it}
 use Rattle.pm_procs.proofs.numbered.place.Goals as goal
 
--- the closure gives the item's number, and the slice is the vector's items
+pub returns-then-i-len : goal.returns-then-i-len
+returns-then-i-len g c =
+    cut-at_end g.T.Numbered.number c.args.number c.args.items.now.items c.count_lower-i.result c.count_lower-i.ensures (omega (arith, c.len.ensures))
+
+pub returns-then-number : goal.returns-then-number
+returns-then-number g c =
+    cut-at_another g.T.Numbered.number c.args.number c.args.items.now.items c.count_lower-i.result c.at.result.now c.requires c.count_lower-i.ensures c.at.ensures
+    (λ same. absurd (omega (arith, same, c.number.ensures)))
+
 pub returns : goal.returns
 returns g c =
-    let facts = c.binary_search_by_key.ensures in
-    let by_key = facts.position g.T.Numbered.number (answers_always _ _ _ (λ f a r k called. search rules)) in
-    c.ok.ensures.value
-    ∙ searched g.T.Numbered.number c.args.number c.args.items.now.items c.requires c.binary_search_by_key.result (rw c.deref.ensures.value at facts.bound) (rw c.deref.ensures.value at by_key)
+    cut-at_it g.T.Numbered.number c.args.number c.args.items.now.items c.count_lower-i.result c.at.result.now c.count_lower-i.ensures c.at.ensures
+    (omega (arith, c.number.ensures))

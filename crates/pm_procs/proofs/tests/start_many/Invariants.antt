@@ -3,4 +3,4 @@ use Rattle.pm_procs.proofs.tests.start_many.Given as goal
 
 abbrev pub invariant-loop : goal.invariant-loop
 invariant-loop l =
-    (l.table.next_process ≡ l.initial.table.next_process + l.counter) × (l.table.next_session ≡ l.initial.table.next_session)
+    (l.table.procs.next_process ≡ l.initial.table.procs.next_process + l.counter) × (l.table.procs.next_session ≡ l.initial.table.procs.next_session)

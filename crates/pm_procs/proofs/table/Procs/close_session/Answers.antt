@@ -1,21 +1,14 @@
-use Rattle.std.proofs.Common.{◌≡◌, filter, not, rules, refl}
-use Rattle.std.proofs.lemmas.Fn.{filter_same}
-use Rattle.pm_model.specs.Sessions.{is_of_session}
-use Rattle.pm_procs.specs.Kept.{shown}
+use Rattle.pm_procs.specs.Kept.{procs_of}
 use Rattle.pm_procs.proofs.Numbers.{sessions-rise, numbered-without_session}
 use Rattle.pm_procs.proofs.table.Procs.close_session.Goals as goal
 
-pub remove-requires : goal.remove-requires
-remove-requires c = sessions-rise (shown c.self.inside) c.self.invariant
+pub own-requires : goal.own-requires
+own-requires c = sessions-rise (procs_of c.self.inside) c.self.invariant
 
-pub invariant_of-self : goal.invariant_of-self
-invariant_of-self c =
-    let left : c.retain.new.self.items ≡ filter (λ p. not (is_of_session c.args.session p)) c.self.inside.processes.items =
-    filter_same _ _ _ (λ x b f' k. search rules) _ _ c.retain.ensures.filtered in
-    rw (c.remove.ensures, left) (numbered-without_session (shown c.self.inside) c.self.invariant c.args.session)
+pub remove-requires-clause-rising : goal.remove-requires-clause-rising
+remove-requires-clause-rising c = rw c.own.ensures.items (sessions-rise (procs_of c.self.inside) c.self.invariant)
 
-pub returns-clause-ok : goal.returns-clause-ok
-returns-clause-ok c =
-    let left : c.retain.new.self.items ≡ filter (λ p. not (is_of_session c.args.session p)) c.self.inside.processes.items =
-    filter_same _ _ _ (λ x b f' k. search rules) _ _ c.retain.ensures.filtered in
-    rw (← c.self.view_is, c.remove.ensures, left) refl
+pub invariant_of-self-2 : goal.invariant_of-self-2
+invariant_of-self-2 c =
+    rw (c.remove.ensures.items, c.own.ensures.items, c.remove_processes.ensures.items, c.own_processes.ensures.items)
+    (numbered-without_session (procs_of c.self.inside) c.self.invariant c.args.session)

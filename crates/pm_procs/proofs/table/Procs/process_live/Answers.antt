@@ -1,12 +1,12 @@
 use Rattle.std.proofs.Common.{◌∙◌, is_some, ap}
 use Rattle.pm_model.specs.Sessions.{is_process}
-use Rattle.pm_procs.specs.Kept.{shown}
+use Rattle.pm_procs.specs.Kept.{procs_of}
 use Rattle.pm_procs.proofs.Numbers.{processes-rise}
 use Rattle.pm_procs.proofs.Places.{is_some-position}
 use Rattle.pm_procs.proofs.table.Procs.process_live.Goals as goal
 
 pub place-requires : goal.place-requires
-place-requires c = processes-rise (shown c.self.inside) c.self.invariant
+place-requires c = processes-rise (procs_of c.self.inside) c.self.invariant
 
 pub returns : goal.returns
 returns c =
