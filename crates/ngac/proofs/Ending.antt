@@ -1,7 +1,7 @@
 -- How a run ends.
-use Rattle.std.proofs.Common.{◌≡◌, ◌<◌, ℕ, List, [], ◌∷◌, ◌++◌, length, take, Option, None, Some, refl, sym, ◌∙◌, ap, subst, arith, length-append, false, nat_lt}
+use Rattle.std.proofs.Common.{◌≡◌, ◌<◌, ℕ, List, [], ◌∷◌, ◌++◌, length, take, Option, None, Some, refl, sym, ◌∙◌, ap, subst, arith, length-append, false, true, nat_lt}
 use Rattle.std.proofs.lemmas.List.{append-nil}
-use Rattle.std.proofs.lemmas.Bool.{le-ltb}
+use Rattle.std.proofs.lemmas.Bool.{le-ltb, lt-ltb}
 use Rattle.std.proofs.Math.Seq.{take-append_seam}
 use Rattle.std.specs.Io.KnownBytes.{Consumes, IsAtEnd, Keeps}
 use Rattle.pm_model.specs.State.{State, opening}
@@ -91,6 +91,18 @@ ran-done limit left rest last taken grown S w o n h short k end = record {
   within = let q = h.count in omega arith;
   at_limit = λ _. (λ e. cc, λ p. let q = h.count in let l = p.0 in let none : ⊥ = omega arith in absurd none);
 }
+
+-- so it must be, where the input is shorter than the limit
+pub complete-done : (limit : ℕ) (left rest last taken grown : Option (List ℕ)) (S : State) (w o : List ℕ) (n : ℕ)
+    → Running left rest taken grown S w o n → n < limit → Consumes rest last [] → IsAtEnd last → IsComplete limit left Done
+complete-done limit None rest last taken grown S w o n h short k end = tt
+complete-done limit (Some input) None last taken grown S w o n h short k end = absurd h.consumed
+complete-done limit (Some input) (Some behind) None taken grown S w o n h short k end = absurd k
+complete-done limit (Some input) (Some behind) (Some last) taken grown S w o n h short k end = λ _.
+    let l = ap length h.consumed ∙ length-append h.bytes behind in
+    let b : length behind ≡ 0 = ap length (k ∙ end) in
+    let q = h.count in
+    let before : nat_lt (length input) limit ≡ true = lt-ltb (length input) limit (omega arith) in rw before refl
 
 -- as many bytes as the limit
 pub ran-much : (limit : ℕ) (left rest taken grown : Option (List ℕ)) (S : State) (w o : List ℕ) (n : ℕ)

@@ -1,5 +1,5 @@
 -- A run, piece after piece.
-use Rattle.std.proofs.Common.{◌≡◌, ◌≤◌, ◌+◌, ℕ, List, [], ◌++◌, length, take, Option, None, sym, ◌∙◌, ap, arith, append_assoc, length-append, take_all}
+use Rattle.std.proofs.Common.{◌≡◌, ◌≤◌, ◌+◌, ℕ, List, [], ◌++◌, length, take, Option, None, refl, sym, ◌∙◌, ap, arith, append_assoc, length-append, take_all}
 use Rattle.std.specs.Io.KnownBytes.{Consumes}
 use Rattle.pm_model.specs.State.{State, opening}
 use Rattle.pm_model.specs.Lines.{Event, cut, shape, events}
@@ -7,7 +7,7 @@ use Rattle.pm_model.specs.Solo.{replies}
 use Rattle.pm_session.proofs.LineLaws.{events-shape-append}
 use Rattle.ngac.specs.Coming.{coming, coming_past, ahead}
 use Rattle.ngac.specs.Wrote.{Wrote, WroteWhole, WrotePart}
-use Rattle.ngac.proofs.Known.{Consumes-append}
+use Rattle.ngac.proofs.Known.{Appends-nil, Consumes-nil, Consumes-append}
 use Rattle.ngac.proofs.Writing.{Wrote-then, Wrote-then_part}
 
 -- what was pushed comes before what is behind it
@@ -39,6 +39,17 @@ pub record Running (left rest taken grown : Option (List ℕ)) (S : State) (wait
   pub drained : cut waiting ≡ None
   pub sent : output ≡ []
   pub count : length bytes ≡ total
+
+-- before the first piece
+pub running-none : (left taken : Option (List ℕ)) (S : State) (w o : List ℕ) → S ≡ opening → w ≡ [] → o ≡ [] → Running left left taken taken S w o 0
+running-none left taken S w o begun waits none = rw (begun, waits, none) (record {
+  bytes = [];
+  consumed = Consumes-nil left;
+  wrote = record { lines = []; appended = Appends-nil taken; state = refl; told = λ more. refl };
+  drained = refl;
+  sent = refl;
+  count = refl;
+})
 
 -- the piece that was read now, before its lines are answered
 pub record Reading (left rest taken grown : Option (List ℕ)) (S : State) (waiting piece : List ℕ) (limit : ℕ) : Type 0 where

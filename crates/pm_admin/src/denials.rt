@@ -28,8 +28,8 @@ fn is_roots(user: ElementId, right: u8) -> bool
 }
 
 fn reason_by(deny: &Deny, verdict: Verdict) -> Option<Reason>
-    requires { IsPlaced deny.now verdict }
-    ensures { result ≡ reason_by deny.now verdict }
+    requires { IsPlaced deny.now.items verdict }
+    ensures { result ≡ reason_by deny.now.items verdict }
 {
     match verdict {
         Verdict::Granted => None,

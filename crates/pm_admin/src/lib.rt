@@ -1,10 +1,8 @@
-//! Commands and accesses: what they name, whether the user and the process may, and a command on a
-//! draft.
+//! Commands and accesses: what they name, and whether the user and the process may.
 #![tactic(auto)]
 
 mod access;
 mod capabilities;
-mod commands;
 mod denials;
 mod names;
 mod prohibiting;
@@ -13,6 +11,5 @@ mod rulings;
 mod tests;
 
 pub use access::{acting, authorise_access};
-pub use commands::apply;
 pub use names::look_up;
 pub use rulings::{Ruling, authorise, permit};

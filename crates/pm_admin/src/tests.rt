@@ -1,10 +1,10 @@
-//! Names, rulings and commands in the opening state, with answers worked out by hand.
+//! Names and rulings in the opening state, with answers worked out by hand.
 
 ghost use Rattle.pm_model.specs.Formed.{IsLive};
 
-use crate::{Ruling, acting, apply, authorise, authorise_access, look_up, permit};
-use pm_model::{Change, ChangeError, Command, ElementId, Kind, Made, Name, Reason, Refusal};
-use pm_state::{Draft, Graph, State};
+use crate::{Ruling, acting, authorise, authorise_access, look_up, permit};
+use pm_model::{Change, Command, ElementId, Kind, Name, Reason, Refusal};
+use pm_state::{Graph, State};
 use std::process::Abort;
 use std::test::Fail;
 
@@ -25,7 +25,6 @@ fn root(rt: &impl Abort, graph: &Graph) -> ElementId
 fn word(why: &Refusal, told: Name) -> &'static str {
     match why {
         Refusal::UnknownProcess => "unknown_process",
-        Refusal::NameTaken => "name_taken",
         Refusal::UnknownName { name } => {
             if *name == told {
                 "unknown_name"
@@ -179,29 +178,5 @@ fn an_administrative_right_is_none_of_an_access(rt: HostRuntime) -> Result<(), F
         refused_on_pm(&rt, state.graph(), right),
         Err("unknown_name")
     );
-    Ok(())
-}
-
-// What the command of root makes in the draft.
-fn create_pc(rt: &impl Abort, draft: &mut Draft, name: Name) -> Result<Made, &'static str> {
-    let user = root(rt, draft.graph());
-    let answer = apply(draft, user, &Command::CreatePc { name });
-    match &answer {
-        Ok((_, made)) => Ok(*made),
-        Err(ChangeError::Refused(why)) => Err(word(why, name)),
-        Err(ChangeError::Memory) => Err("no memory"),
-    }
-}
-
-#[test]
-fn a_command_changes_the_draft(rt: HostRuntime) -> Result<(), Fail> {
-    let mut draft = State::opening(rt.alloc())?.draft()?;
-    let files = named(&rt, "files");
-    assert_eq!(rt;
-        create_pc(&rt, &mut draft, files),
-        Ok(Made::Element(ElementId(3)))
-    );
-    assert_eq!(rt; create_pc(&rt, &mut draft, files), Err("name_taken"));
-    assert_eq!(rt; draft.graph().classes().len(), 2);
     Ok(())
 }

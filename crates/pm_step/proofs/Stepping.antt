@@ -1,27 +1,22 @@
 -- From a request that comes to a change to the machine's answer.
-use Rattle.std.proofs.Common.{◌≡◌, ◌<◌, ◌≤◌, ◌+◌, ℕ, nat_le, Bool, true, false, List, [], ◌∷◌, ◌++◌, length, Option, Some, None, Result, Ok, Err, IfOk, refl, sym, ◌∙◌, ap, subst, length-append}
-use Rattle.std.proofs.lemmas.Bool.{le-leb}
+use Rattle.std.proofs.Common.{◌≡◌, ◌+◌, ◌<◌, nat_le, Bool, true, false, ◌++◌, ◌∷◌, [], length, Option, Some, None, Ok, refl, sym, ◌∙◌, ap, arith}
 use Rattle.std.proofs.lemmas.Option.{same_Some}
-use Rattle.std.proofs.lemmas.List.{append-nil}
+use Rattle.std.proofs.lemmas.List.{append-nil, length-append}
 use Rattle.pm_model.specs.State.{State, Graph}
-use Rattle.pm_model.specs.Effect.{refusal, changed, effect}
+use Rattle.pm_model.specs.Effect.{refusal, changed}
 use Rattle.pm_model.specs.Made.{made_by, shown_of}
-use Rattle.pm_model.specs.Answer.{Answer, told, made, entered, proposed, longest_history, limited, answer, after, refusal_in}
+use Rattle.pm_model.specs.Answer.{Answer, told, entered, proposed, longest_history, limited, answer, after, refusal_in}
 use Rattle.pm_model.specs.History.{Machine, state_of}
 use Rattle.pm_model.specs.Recorded.{entries_of}
-use Rattle.pm_model.specs.declared.memory.Memory.{Memory}
 use Rattle.pm_model.specs.declared.requests.Request.{Request}
 use Rattle.pm_model.specs.declared.requests.Entry.{Entry}
 use Rattle.pm_model.specs.declared.requests.Change.{Change}
-use Rattle.pm_model.specs.declared.replies.Made.{Made}
 use Rattle.pm_model.specs.declared.replies.Refusal.{Refusal}
 use Rattle.pm_model.specs.declared.replies.Refusal.TheVariants.{Full}
 use Rattle.pm_model.specs.declared.replies.Table.TheVariants.{History}
 use Rattle.pm_model.specs.declared.replies.Reply.{Reply}
 use Rattle.pm_model.specs.declared.replies.Reply.TheVariants.{Done, Refused}
-use Rattle.pm_laws.proofs.Replayed.{bounded}
-use Rattle.pm_step.specs.Answered.{IsStep, IsFinished, HasAnswered}
-use Rattle.pm_step.specs.declared.steps.Stepped.{Stepped}
+use Rattle.pm_step.specs.Answered.{HasAnswered, IsStep}
 use Rattle.pm_step.specs.declared.steps.Stepped.TheVariants.{Accepted, Answered}
 
 -- what an accepted change is answered by
@@ -63,29 +58,31 @@ refused-answered M N e c why proposal is same =
           ∙ sym (ap (λ (a : Answer). M.history ++ entries_of a.next e) refused);
     }
 
-pub stepped : (old d : Machine) (m : Made) (e : Entry) (c : Change) → proposed (state_of old) e.request ≡ entered (state_of old) (Ok c) →
-    effect old.graph c ≡ Ok d.graph → m ≡ made_by old.graph c → d.history ≡ old.history → (r : Result Stepped Memory) →
-    IfOk r (IsFinished d m e) → IfOk r (IsStep old e)
-stepped old d m e c proposal is what same = of where
-  S : State
-  S = state_of old
+-- an accepted request makes the history longer
+grown : (M N : Machine) (e : Entry) {reply : Reply} → HasAnswered M N e reply → (S : State) → (answer (state_of M) e.request).next ≡ Some S →
+    length M.history < length N.history
+grown M N e h S is =
+    let long : length N.history ≡ length (M.history ++ e ∷ []) = ap length (h.history ∙ rw is refl) in
+    omega (arith, long, length-append M.history (e ∷ []))
 
-  met : proposed S e.request ≡ given S c d.graph
-  met = proposal ∙ ap (made S.version (shown_of (made_by old.graph c))) is
+-- an answer by its two parts
+parts : (a : Answer) (reply : Reply) (next : Option State) → reply ≡ a.reply → a.next ≡ next → a ≡ record { reply = reply; next = next }
+parts a reply next told is = rw (told, sym is) refl
 
-  of : (r : Result Stepped Memory) → IfOk r (IsFinished d m e) → IfOk r (IsStep old e)
-  of (Err error) h = tt
-  of (Ok (Accepted new reply)) h =
-      let count : length (d.history ++ e ∷ []) ≡ length old.history + 1 = length-append d.history (e ∷ []) ∙ ap (λ l. length l + 1) same in
-      let room : length old.history < longest_history = subst (λ (l : List Entry). length l < longest_history) same h.2 in
-      let told : reply ≡ Done (shown_of (made_by old.graph c)) = h.0 ∙ ap (λ (x : Made). Done (shown_of x)) what in
-      let now : state_of new ≡ record { graph = d.graph; version = length old.history + 1 } =
-      ap state_of h.1 ∙ ap (λ (v : ℕ). let s : State = record { graph = d.graph; version = v } in s) count in (
-        bounded S e.request room ∙ met
-            ∙ ap (λ (s : State). let a : Answer = record { reply = Done (shown_of (made_by old.graph c)); next = Some s } in a) (sym now)
-            ∙ ap (λ (t : Reply). let a : Answer = record { reply = t; next = Some (state_of new) } in a) (sym told),
-        ap (λ (M : Machine). M.history) h.1 ∙ ap (λ l. l ++ e ∷ []) same,
-      )
-  of (Ok (Answered reply)) h =
-      let limit : longest_history ≤ length old.history = subst (λ (l : List Entry). longest_history ≤ length l) same h.1 in
-      full-is S e.request c d.graph met (le-leb longest_history (length old.history) limit) ∙ ap told (sym h.0)
+-- what is answered and adds no entry is told alone
+pub answered-alone : (M N : Machine) (e : Entry) (reply : Reply) → HasAnswered M N e reply → length N.history ≡ length M.history →
+    IsStep M e (Answered reply)
+answered-alone M N e reply h same = of (answer (state_of M) e.request).next refl where
+  of : (o : Option State) → (answer (state_of M) e.request).next ≡ o → IsStep M e (Answered reply)
+  of None is = parts (answer (state_of M) e.request) reply None h.reply is
+  of (Some S) is = absurd (omega (arith, same, grown M N e h S is))
+
+-- what is answered and adds an entry is accepted
+pub answered-on : (M N : Machine) (e : Entry) (reply : Reply) → HasAnswered M N e reply → ¬ (length N.history ≡ length M.history) →
+    IsStep M e (Accepted N reply)
+answered-on M N e reply h more = of (answer (state_of M) e.request).next refl where
+  of : (o : Option State) → (answer (state_of M) e.request).next ≡ o → IsStep M e (Accepted N reply)
+  of None is = absurd (more (ap length (h.history ∙ rw is (append-nil M.history))))
+  of (Some S) is =
+      let state : state_of N ≡ S = h.state ∙ rw is refl in
+      (parts (answer (state_of M) e.request) reply (Some (state_of N)) h.reply (is ∙ ap Some (sym state)), h.history ∙ rw is refl)

@@ -1,18 +1,20 @@
 -- What the calls of the machine tell.
-use Rattle.std.specs.Prelude.{◌≡◌, ◌<◌, ◌≤◌, ◌++◌, ◌∷◌, [], ℕ, length, Some, None}
-use Rattle.pm_model.specs.Answer.{answer, after, longest_history}
+use Rattle.std.specs.Prelude.{◌≡◌, ◌++◌, ◌∷◌, [], ℕ, length, Some, None}
+use Rattle.pm_model.specs.Answer.{answer, after}
 use Rattle.pm_model.specs.History.{Machine, state_of}
 use Rattle.pm_model.specs.Recorded.{next_entry, entries_of}
-use Rattle.pm_model.specs.Made.{shown_of}
 use Rattle.pm_model.specs.declared.requests.Request.{Request}
 use Rattle.pm_model.specs.declared.requests.Entry.{Entry}
-use Rattle.pm_model.specs.declared.replies.Made.{Made}
-use Rattle.pm_model.specs.declared.replies.Refusal.TheVariants.{Full}
-use Rattle.pm_model.specs.declared.replies.Table.TheVariants.{History}
 use Rattle.pm_model.specs.declared.replies.Reply.{Reply}
-use Rattle.pm_model.specs.declared.replies.Reply.TheVariants.{Done, Refused}
 use Rattle.pm_step.specs.declared.steps.Stepped.{Stepped}
 use Rattle.pm_step.specs.declared.steps.Stepped.TheVariants.{Accepted, Answered}
+
+-- the machine has answered the entry's request by this reply: the state has gone on by the answer, and the history has
+-- the entry where it is accepted, and is the same where not
+pub record HasAnswered (old new : Machine) (entry : Entry) (told : Reply) : Type 0 where
+  pub reply : told ≡ (answer (state_of old) entry.request).reply
+  pub state : state_of new ≡ after (state_of old) (answer (state_of old) entry.request)
+  pub history : new.history ≡ old.history ++ entries_of (answer (state_of old) entry.request).next entry
 
 -- a step gives the machine's answer: where the request is accepted, with the state after it, whose history has this one
 -- entry more
@@ -20,20 +22,6 @@ abbrev pub IsStep : Machine → Entry → Stepped → Type 0
 IsStep old entry (Accepted new told) =
     (answer (state_of old) entry.request ≡ record { reply = told; next = Some (state_of new) }) × (new.history ≡ old.history ++ entry ∷ [])
 IsStep old entry (Answered told) = answer (state_of old) entry.request ≡ record { reply = told; next = None }
-
--- what comes of a draft whose last change has made this: the state with its graph and the entry, or a full history
-abbrev pub IsFinished : Machine → Made → Entry → Stepped → Type 0
-IsFinished draft made entry (Accepted new told) =
-    (told ≡ Done (shown_of made)) × (new ≡ record { graph = draft.graph; history = draft.history ++ entry ∷ [] })
-    × (length draft.history < longest_history)
-IsFinished draft made entry (Answered told) = (told ≡ Refused (Full History)) × (longest_history ≤ length draft.history)
-
--- the machine has answered the entry's request in place, by this reply: the state has gone on by the answer, and the
--- history has the entry where it is accepted, and is the same where not
-pub record HasAnswered (old new : Machine) (entry : Entry) (told : Reply) : Type 0 where
-  pub reply : told ≡ (answer (state_of old) entry.request).reply
-  pub state : state_of new ≡ after (state_of old) (answer (state_of old) entry.request)
-  pub history : new.history ≡ old.history ++ entries_of (answer (state_of old) entry.request).next entry
 
 -- so it has answered its only caller, to whom the version after the answer is told too
 pub record Tells (old new : Machine) (request : Request) (told : Reply × ℕ) : Type 0 where

@@ -1,10 +1,10 @@
 //! Requests from the opening state on, with answers worked out by hand.
 
-use crate::{Solo, Stepped, step};
+use crate::{Solo, Stepped, advance, step};
 use Told::{Ahead, Done, Granted, Process, Refused, Session};
 use pm_model::{
-    Bars, Body, Command, Kind, Mode, Name, NameList, Reason, Refusal, Reply, Request, Shown,
-    Subject,
+    Bars, Body, Command, Kind, Memory, Mode, Name, NameList, Reason, Refusal, Reply, Request,
+    Shown, Subject,
 };
 use pm_state::{Graph, State};
 use std::alloc::Global;
@@ -338,5 +338,54 @@ fn a_history_is_asked_again(rt: HostRuntime) -> Result<(), Fail> {
     replay(&rt, first.state(), &accepted, &mut second);
     check_end(&rt, &mut first);
     check_end(&rt, &mut second);
+    Ok(())
+}
+
+/// How many versions stand beside one another.
+const VERSIONS: u32 = 1000;
+
+/// `v` and the three digits of a number.
+fn class_name(rt: &impl Abort, number: u32) -> Name {
+    let digit = |place: u32| b'0' + (number / place % 10) as u8;
+    Name::new(&[b'v', digit(100), digit(10), digit(1)]).expect(rt, "a name")
+}
+
+/// Makes the class of this number in place.
+fn make_class(rt: &impl Abort, state: &mut State, number: u32) -> Result<(), Memory> {
+    let name = class_name(rt, number);
+    let request = Request {
+        after: None,
+        body: by_process_0(Command::CreatePc { name }),
+    };
+    let nth = state.version() + 1;
+    advance(state, 0, nth, &request)?;
+    Ok(())
+}
+
+/// A copy of the state before each of the changes.
+fn copies(rt: &(impl Abort + Alloc<A = Global>)) -> Result<Vec<State>, Memory> {
+    let mut state = State::opening(rt.alloc())?;
+    let mut versions = Vec::new(rt.alloc());
+    for number in 0..VERSIONS {
+        state.share()?;
+        versions.push(state.copy()?)?;
+        make_class(rt, &mut state, number)?;
+    }
+    Ok(versions)
+}
+
+fn has_class(rt: &impl Abort, state: &State, number: u32) -> bool {
+    let name = class_name(rt, number);
+    state.graph().elements().find(name).is_some()
+}
+
+#[test]
+fn copies_answer_as_at_their_versions(rt: HostRuntime) -> Result<(), Fail> {
+    let versions = copies(&rt)?;
+    for (number, version) in (0..VERSIONS).zip(&versions) {
+        assert_eq!(rt; version.version(), u64::from(number));
+        assert!(rt; !has_class(&rt, version, number));
+        assert!(rt; number == 0 || has_class(&rt, version, number - 1));
+    }
     Ok(())
 }

@@ -11,7 +11,7 @@ decide-verdict-requires-clause-asked g c = rw (c.requires.reach) (record {
   user = c.requires.user;
   element = c.requires.element;
   classes = rw (c.classes-classes.ensures) (classes-live c.args.graph.now c.formed.ensures);
-  grants = table-live c.args.graph.now _ c.assoc-assoc.result.now c.formed.ensures c.kept.ensures c.assoc-assoc.ensures;
+  grants = table-live c.args.graph.now _ c.assoc-assoc.result.now.grantees c.formed.ensures c.kept.ensures c.assoc-assoc.ensures;
 })
 
 pub decide-verdict-requires-clause-bars : goal.decide-verdict-requires-clause-bars
@@ -22,7 +22,7 @@ pub reason_by-requires : goal.reason_by-requires
 reason_by-requires g c =
     let G = c.args.graph.now in
     rw (c.decide-verdict.ensures.answer, c.requires.reach)
-    (verdict-placed (contained G.assigned) (associations_of c.assoc-assoc.result.now) c.deny-deny.result.now c.classes-classes.result.now
+    (verdict-placed (contained G.assigned) (associations_of c.assoc-assoc.result.now.grantees) c.deny-deny.result.now.items c.classes-classes.result.now
     c.args.user c.args.process c.args.right c.args.element)
 
 pub returns-clause-answer : goal.returns-clause-answer
