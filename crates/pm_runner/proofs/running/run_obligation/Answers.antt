@@ -1,0 +1,26 @@
+-- An action behind those that have made the graph.
+use Rattle.std.proofs.Common.{◌∙◌, ap, length, arith}
+use Rattle.std.proofs.lemmas.Result.{err_from_is_err_and}
+use Rattle.pm_runner.proofs.Steps.{act-turn, act-done, act-stops, stop-of}
+use Rattle.pm_runner.proofs.running.run_obligation.Goals as goal
+
+pub act_at-requires : goal.act_at-requires
+act_at-requires g c =
+    rw c.loop-i.invariant.same
+    (act-turn (g.A.Acts.occasion c.args.acts.now) c.args.obligation.now c.args.index c.loop-i.i (g.A.Acts.graph c.args.acts.now) (g.A.Acts.graph c.loop-i.acts)
+    (omega (arith, ap length c.actions-actions.ensures.actions)) c.requires.due c.loop-i.invariant.made)
+
+pub returns-in_err-act_at-clause-stopped : goal.returns-in_err-act_at-clause-stopped
+returns-in_err-act_at-clause-stopped g c =
+    let p = err_from_is_err_and c.from_residual.result c.from_residual.ensures.1 in
+    rw (p.1, p.2) (stop-of _ _ c.in_err-act_at.field-0.0
+    (λ stopped. act-stops (g.A.Acts.occasion c.args.acts.now) c.args.obligation.now c.args.index c.loop-i.i (g.A.Acts.graph c.args.acts.now) (g.A.Acts.graph c.loop-i.acts)
+    stopped (omega (arith, ap length c.actions-actions.ensures.actions)) c.requires.due.stands c.loop-i.invariant.made)
+    (rw c.loop-i.invariant.same at c.in_err-act_at.ensures.stopped))
+
+pub loop-i-preserved : goal.loop-i-preserved
+loop-i-preserved g c = record {
+  same = c.in_ok-act_at.ensures.same ∙ c.loop-i.invariant.same;
+  made = act-done (g.A.Acts.occasion c.args.acts.now) c.args.obligation.now c.args.index c.loop-i.i (g.A.Acts.graph c.args.acts.now) (g.A.Acts.graph c.loop-i.acts)
+      (g.A.Acts.graph c.act_at.new.acts) (omega (arith, ap length c.actions-actions.ensures.actions)) c.requires.due.stands c.loop-i.invariant.made (rw c.loop-i.invariant.same at c.in_ok-act_at.ensures.ok);
+}

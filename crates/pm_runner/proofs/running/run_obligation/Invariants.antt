@@ -1,0 +1,13 @@
+-- The actions so far have made the graph.
+use Rattle.std.proofs.Common.{◌≡◌, ◌+◌, take, Ok}
+use Rattle.pm_runner.specs.Turns.{obliged}
+use Rattle.pm_runner.proofs.running.run_obligation.Given as goal
+
+abbrev pub invariant-loop-i : goal.invariant-loop-i
+invariant-loop-i g l =
+    let occasion = g.A.Acts.occasion l.fn.acts in
+    record {
+      same : g.A.Acts.occasion l.acts ≡ occasion;
+      made : obliged occasion l.obligation (l.index + 1) (g.A.Acts.graph l.fn.acts) (take l.i l.obligation.response)
+          ≡ Ok (g.A.Acts.graph l.acts);
+    }

@@ -1,0 +1,12 @@
+-- The responses so far have made the graph.
+use Rattle.std.proofs.Common.{◌≡◌, take, Ok}
+use Rattle.pm_runner.specs.Turns.{responded_by}
+use Rattle.pm_runner.proofs.running.run_responses.Given as goal
+
+abbrev pub invariant-loop-i : goal.invariant-loop-i
+invariant-loop-i g l =
+    let occasion = g.A.Acts.occasion l.fn.acts in
+    record {
+      same : g.A.Acts.occasion l.acts ≡ occasion;
+      made : responded_by occasion (g.A.Acts.graph l.fn.acts) (take l.i occasion.obligations) ≡ Ok (g.A.Acts.graph l.acts);
+    }

@@ -1,0 +1,4 @@
+pub mod Outcomes
+pub mod Standing
+pub mod Turns
+pub mod Worked

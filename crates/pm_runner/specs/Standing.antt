@@ -1,0 +1,13 @@
+-- Items of a list, told by their places.
+use Rattle.std.specs.Prelude.{◌≡◌, ℕ, List, map, Some, All, slice_get}
+use Rattle.pm_model.specs.Containment.{Relation}
+use Rattle.pm_model.specs.declared.obligations.Obligation.{Obligation}
+use Rattle.pm_pattern.specs.Live.{IsPatternLive}
+
+-- what stands at the places, counted from 0, are these, in this order
+abbrev pub StandAt : {X : Type 0} → List X → List ℕ → List X → Type 0
+StandAt xs places these = map (slice_get xs) places ≡ map Some these
+
+-- the elements that the patterns give are live
+abbrev pub ArePatternsLive : Relation → List Obligation → Type 0
+ArePatternsLive relation obligations = All (λ (o : Obligation). IsPatternLive relation o.pattern) obligations

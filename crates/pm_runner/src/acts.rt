@@ -1,0 +1,27 @@
+//! What a run of responses asks of a machine.
+
+ghost use Rattle.std.specs.Prelude.{◌≡◌, OnOk, IfErr, Ok};
+ghost use Rattle.pm_model.specs.State.{Graph};
+ghost use Rattle.pm_runner.specs.Turns.{Occasion, IsTurn, acted_at};
+ghost use Rattle.pm_runner.specs.Outcomes.{IsRefusal};
+
+use crate::errors::ActError;
+use pm_model::Place;
+
+/// A machine that is in the midst of responding to an event.
+pub trait Acts {
+    /// What it responds to.
+    ghost occasion: { Self → Occasion };
+
+    /// The graph as it is now.
+    ghost graph: { Self → Graph };
+
+    /// Does the action at the place, whose turn it is, by the authority of its obligation's author; where a guard
+    /// fails there is nothing to do. The place counts among the obligations of the occasion. After an error nothing
+    /// is said of the graph.
+    fn act(&mut self, place: Place) -> Result<(), ActError>
+        requires { IsTurn (occasion self.old) (graph self.old) place }
+        ensures ok { OnOk result (acted_at (occasion self.old) (graph self.old) place ≡ Ok (graph self.new)) }
+        ensures refused { IfErr result (IsRefusal (acted_at (occasion self.old) (graph self.old) place)) }
+        ensures same { occasion self.new ≡ occasion self.old };
+}
