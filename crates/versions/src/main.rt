@@ -1,0 +1,87 @@
+//! Makes one version of the machine after another, each by a step from the one before, and keeps all to
+//! the end. For measurement: the arguments are how many elements the policy has beside a class, and how
+//! many versions are made of it.
+#![tactic(auto)]
+
+mod policy;
+
+use pm_model::{Command, Memory};
+use pm_state::State;
+use pm_step::{Stepped, step};
+use policy::{admin, class_name, element_name, policy};
+use std::alloc::Global;
+use std::env;
+use std::env::Args;
+use std::process::ExitCode;
+
+/// The next word as a number, or 0.
+fn number(args: &mut Args) -> u32 {
+    match args.next() {
+        Some(word) => word.parse::<u32>().unwrap_or(0),
+        None => 0,
+    }
+}
+
+/// The change that makes version n: an element is assigned to the class, or taken out of it again.
+fn change(n: u32, elements: u32) -> Option<Command> {
+    let others = elements.checked_sub(1)?;
+    let which = (n / 2).wrapping_mul(7919).checked_rem(others)?;
+    let from = element_name(which + 1)?;
+    let to = class_name()?;
+    if n % 2 == 0 {
+        return Some(Command::Assign { from, to });
+    }
+    Some(Command::Deassign { from, to })
+}
+
+/// The version after this one, which shares what it can with it; None where the change is refused.
+fn next(state: &mut State, command: Command) -> Result<Option<State>, Memory> {
+    state.share()?;
+    let nth = state.version() + 1;
+    match step(state, 0, nth, &admin(command))? {
+        Stepped::Accepted(next, _reply) => Ok(Some(next)),
+        Stepped::Answered(_reply) => Ok(None),
+    }
+}
+
+/// The versions that the changes make, each of the one before; it stops at a change that is refused.
+fn versions(alloc: Global, first: State, elements: u32, count: u32) -> Result<Vec<State>, Memory> {
+    let mut versions = vec![in alloc; first]?;
+    for n in 0..count {
+        let Some(command) = change(n, elements) else {
+            break;
+        };
+        let Some(last) = versions.last_mut() else {
+            break;
+        };
+        let Some(state) = next(last, command)? else {
+            break;
+        };
+        versions.push(state)?;
+    }
+    Ok(versions)
+}
+
+/// How many elements and versions there are.
+fn measure(rt: &HostRuntime) -> Result<(usize, usize), Memory> {
+    let Ok(mut args) = env::args(rt) else {
+        return Err(Memory);
+    };
+    let _name = args.next();
+    let elements = number(&mut args);
+    let count = number(&mut args);
+    let first = policy(rt.alloc(), elements)?;
+    let held = first.graph().elements().len();
+    let versions = versions(rt.alloc(), first, elements, count)?;
+    Ok((held, versions.len()))
+}
+
+fn main(rt: HostRuntime) -> ExitCode {
+    match measure(&rt) {
+        Ok((elements, versions)) => {
+            let _ = println!(rt; "{elements} elements, {versions} versions");
+            ExitCode::SUCCESS
+        }
+        Err(Memory) => ExitCode::FAILURE,
+    }
+}
