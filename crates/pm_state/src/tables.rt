@@ -27,6 +27,7 @@ impl Tables {
     pub(crate) fn share(&mut self) -> Result<(), Memory>
         ensures { IsSame self.old self.new }
     {
+        self.elements.share()?;
         self.assoc.share()?;
         self.deny.share()?;
         self.procs.share()
