@@ -119,10 +119,7 @@ fn is_process_in(ended: &[u32], subject: Subject<ElementId, u32>) -> bool
 }
 
 /// Makes ready that the prohibitions on these processes go.
-pub(crate) fn own_processes(
-    items: &mut PageList<Prohibition>,
-    ended: &[u32],
-) -> Result<(), Memory>
+pub(crate) fn own_processes(items: &mut PageList<Prohibition>, ended: &[u32]) -> Result<(), Memory>
     ensures items { items.new.items ≡ items.old.items }
     ensures alone { items.new.alone ≡ items.old.alone }
     ensures ok { OnOk result (OwnWhere (is_on ended.now) items.new) }

@@ -5,6 +5,7 @@ mod checks;
 mod errors;
 mod kinds;
 mod links;
+mod names;
 mod places;
 mod removal;
 mod slots;

@@ -16,25 +16,23 @@ ghost use Rattle.pm_model.specs.declared.elements.Element.{Element};
 use crate::errors::ElementsError;
 use crate::kinds::{both_may_assign, may_create};
 use crate::links::{link, unlink};
-use crate::places::{NewElement, least_free, open_slot, place};
+use crate::names::{copy_names, number_of};
+use crate::places::{NewElement, least_free, place};
 use crate::removal::take_out;
 use crate::slots::{
-    Slots, child_count, has_parent, is_taken, next_taken, no_slots, parent_at, parent_count,
-    taken_slot,
+    Slot, child_count, copy_slots, has_parent, is_taken, next_taken, parent_count, taken_slot,
 };
+use indexmap::IndexMap;
 use pm_model::{ElementId, Kind, Memory, Name, NameOf, Parents, Reach};
-use pm_names::Names;
 use pm_search::PathReach;
 use std::alloc::Global;
 use std::marker::Model;
 
-/// The live policy elements and their assignments. Contracts see the two lists, and whether the table
-/// stands alone: then it has shared nothing since it was made, and what takes something out wants no
-/// memory.
+/// The live policy elements and their assignments. Contracts see the two lists.
 #[derive(Drop)]
 pub struct Elements {
-    slots: Slots,
-    names: Names,
+    slots: Vec<Option<Slot>>,
+    names: IndexMap<Name, ElementId>,
     live: usize,
     links: usize,
 }
@@ -56,7 +54,6 @@ impl Elements {
     pub fn opening(alloc: Global) -> Result<Elements, Memory>
         ensures elements { IfOk result (λ t. t.elements ≡ opening_elements) }
         ensures assigned { IfOk result (λ t. t.assigned ≡ opening_assigned) }
-        ensures alone { IfOk result (λ t. t.alone ≡ true) }
     {
         let mut table = Elements::empty(alloc);
         table.join(Kind::Pc, b"pm", None)?;
@@ -68,11 +65,10 @@ impl Elements {
     fn empty(alloc: Global) -> Elements
         ensures elements { result.elements ≡ [] }
         ensures assigned { result.assigned ≡ [] }
-        ensures alone { result.alone ≡ true }
     {
         Elements {
-            slots: no_slots(alloc),
-            names: Names::new(alloc),
+            slots: Vec::new(alloc),
+            names: IndexMap::new(alloc),
             live: 0,
             links: 0,
         }
@@ -84,7 +80,6 @@ impl Elements {
         requires into_live { IfSome into (IsLive self.old.elements) }
         ensures elements { OnOk result (self.new.elements ≡ placed (element (unused self.old.elements) kind name.now) self.old.elements) }
         ensures assigned { OnOk result (self.new.assigned ≡ with_pair into (unused self.old.elements) self.old.assigned) }
-        ensures alone { self.new.alone ≡ self.old.alone }
     {
         let name = Name::new(name).unwrap();
         match self.create(kind, name, into) {
@@ -93,25 +88,14 @@ impl Elements {
         }
     }
 
-    /// Lets copies share the table. It takes memory for what the table has for itself, but for no
-    /// element.
-    pub fn share(&mut self) -> Result<(), Memory>
-        ensures elements { self.new.elements ≡ self.old.elements }
-        ensures assigned { self.new.assigned ≡ self.old.assigned }
-        ensures alone { self.new.alone ≡ false }
-    {
-        self.slots.share()?;
-        self.names.share()
-    }
-
-    /// The same table once more. It copies what isn't shared: so `share` comes first.
+    /// The same table once more.
     pub fn copy(&self) -> Result<Elements, Memory>
-        ensures elements { IfOk result (λ same. same.elements ≡ self.now.elements) }
-        ensures assigned { IfOk result (λ same. same.assigned ≡ self.now.assigned) }
+        ensures { IfOk result (λ same. same ≡ self.now) }
     {
+        let alloc = *self.slots.allocator();
         Ok(Elements {
-            slots: self.slots.copy()?,
-            names: self.names.copy()?,
+            slots: copy_slots(alloc, self.slots.as_slice())?,
+            names: copy_names(&self.names)?,
             live: self.live,
             links: self.links,
         })
@@ -122,7 +106,7 @@ impl Elements {
     pub fn find(&self, name: Name) -> Option<ElementId>
         ensures { result ≡ number_named self.now.elements name }
     {
-        self.names.find(&name)
+        number_of(&self.names, name)
     }
 
     /// Whether a live element has the number.
@@ -165,7 +149,6 @@ impl Elements {
         ensures number { IfOk result (λ n. n ≡ unused self.old.elements) }
         ensures elements { OnOk result (self.new.elements ≡ placed (element (unused self.old.elements) kind name) self.old.elements) }
         ensures assigned { OnOk result (self.new.assigned ≡ self.old.assigned) }
-        ensures alone { self.new.alone ≡ self.old.alone }
         ensures refused { IfErr result (λ e. IsCause (first_of (add_checks self.old.elements name)) (told e)) }
         ensures err { OnErr result (self.new ≡ self.old) }
     {
@@ -192,7 +175,6 @@ impl Elements {
         ensures number { IfOk result (λ n. n ≡ unused self.old.elements) }
         ensures elements { OnOk result (self.new.elements ≡ placed (element (unused self.old.elements) kind name) self.old.elements) }
         ensures assigned { OnOk result (self.new.assigned ≡ with_pair into (unused self.old.elements) self.old.assigned) }
-        ensures alone { self.new.alone ≡ self.old.alone }
         ensures refused { IfErr result (λ e. IsCause (first_of (create_checks self.old.elements self.old.assigned kind name into)) (told e)) }
         ensures err { OnErr result (self.new ≡ self.old) }
     {
@@ -211,11 +193,9 @@ impl Elements {
         ensures number { IfOk result (λ n. n ≡ unused self.old.elements) }
         ensures elements { OnOk result (self.new.elements ≡ placed (element (unused self.old.elements) new.now.kind new.now.name) self.old.elements) }
         ensures assigned { OnOk result (self.new.assigned ≡ with_pair new.now.into (unused self.old.elements) self.old.assigned) }
-        ensures alone { self.new.alone ≡ self.old.alone }
         ensures err { OnErr result (self.new ≡ self.old) }
     {
         let id = self.unused();
-        open_slot(&mut self.slots, id)?;
         place(&mut self.slots, &mut self.names, id, new)?;
         self.live += 1;
         self.links += new.links();
@@ -240,40 +220,38 @@ impl Elements {
     }
 
     /// Takes the assignment of x to y away, both live: `Absent`, `LastContainer` exactly where y is
-    /// the only container of x, in this order; `Memory` where there was none, and never where the
-    /// table stands alone.
+    /// the only container of x, in this order. It takes no memory.
     pub fn deassign(&mut self, x: ElementId, y: ElementId) -> Result<(), ElementsError>
         requires x_live { IsLive self.old.elements x }
         requires y_live { IsLive self.old.elements y }
         ensures fits { OnOk result (first_of (deassign_checks self.old.assigned x y) ≡ None) }
         ensures ok { OnOk result (self.new ≡ record self.old { assigned = filter (λ pair. not (is_pair x y pair)) self.old.assigned }) }
         ensures refused { IfErr result (λ e. IsCause (first_of (deassign_checks self.old.assigned x y)) (told e)) }
-        ensures no_memory { self.old.alone ≡ true → IfErr result (λ e. e ≢ ElementsError.Memory) }
+        ensures no_memory { IfErr result (λ e. e ≢ ElementsError.Memory) }
         ensures err { OnErr result (self.new ≡ self.old) }
     {
         self.check_deassign(x, y)?;
-        unlink(&mut self.slots, x, y)?;
+        unlink(&mut self.slots, x, y);
         self.links -= 1;
         Ok(())
     }
 
     /// Takes a live element and its assignments out: `Occupied` exactly where something is assigned
-    /// to it; `Memory` where there was none, and never where the table stands alone.
+    /// to it. It takes no memory.
     pub fn remove(&mut self, id: ElementId) -> Result<(), ElementsError>
         requires { IsLive self.old.elements id }
         ensures fits { OnOk result (first_of (remove_checks self.old.assigned id) ≡ None) }
         ensures elements { OnOk result (self.new.elements ≡ filter (λ e. not (is_numbered id e)) self.old.elements) }
         ensures assigned { OnOk result (self.new.assigned ≡ filter (λ pair. not (is_from id pair)) self.old.assigned) }
-        ensures alone { self.new.alone ≡ self.old.alone }
         ensures refused { IfErr result (λ e. IsCause (first_of (remove_checks self.old.assigned id)) (told e)) }
-        ensures no_memory { self.old.alone ≡ true → IfErr result (λ e. e ≢ ElementsError.Memory) }
+        ensures no_memory { IfErr result (λ e. e ≢ ElementsError.Memory) }
         ensures err { OnErr result (self.new ≡ self.old) }
     {
         if self.has_children(id) {
             return Err(ElementsError::Occupied);
         }
         let links = self.containers(id);
-        take_out(&mut self.slots, &mut self.names, id)?;
+        take_out(&mut self.slots, &mut self.names, id);
         self.live -= 1;
         self.links -= links;
         Ok(())
@@ -309,7 +287,8 @@ impl Elements {
     pub fn paths(&self) -> Result<PathReach<'_, Elements>, Memory>
         ensures { IfOk result (λ r. r.parents.now ≡ self.now) }
     {
-        PathReach::new(self.slots.allocator(), self, self.slots.len())
+        let alloc = *self.slots.allocator();
+        PathReach::new(alloc, self, self.slots.len())
     }
 
     /// How many assignments there are.
@@ -388,7 +367,7 @@ impl Parents for Elements {
 
     #[tactic(auto, using(crate::proofs::Assigned::containers_held))]
     fn parent(&self, x: ElementId, i: usize) -> ElementId {
-        parent_at(&self.slots, x, i)
+        *taken_slot(&self.slots, x).parents.at(i)
     }
 }
 

@@ -166,9 +166,12 @@ fn a_hole_is_found_and_filled(rt: HostRuntime) -> Result<(), Fail> {
     for (from, want) in [(0, Some(ElementId(0))), (7, Some(ElementId(8))), (9, None)] {
         assert_eq!(rt; table.next(from), want, "from {from}");
     }
+    let same = table.copy()?;
     assert_eq!(rt; table.unused(), ElementId(7));
     create(&rt, &mut table, Kind::Ua, "leads", "staff")?;
     assert_eq!(rt; table.find(named(&rt, "leads")), Some(ElementId(7)));
+    assert_eq!(rt; same.find(named(&rt, "leads")), None);
+    assert_eq!(rt; same.find(named(&rt, "memo")), Some(ElementId(8)));
     Ok(())
 }
 
@@ -177,24 +180,6 @@ fn contains(rt: &impl Abort, table: &Elements, first: &str, second: &str) -> Res
     let y = live_named(rt, table, second);
     let mut paths = table.paths()?;
     Ok(paths.contains(x, y))
-}
-
-#[test]
-fn copies_go_apart(rt: HostRuntime) -> Result<(), Fail> {
-    let mut table = policy(&rt, rt.alloc())?;
-    table.share()?;
-    let mut same = table.copy()?;
-    assign(&rt, &mut table, "ann", "team")?;
-    deassign(&rt, &mut table, "ann", "staff")?;
-    remove(&rt, &mut table, "memo")?;
-    create(&rt, &mut same, Kind::Ua, "leads", "team")?;
-    assert!(rt; contains(&rt, &table, "ann", "team")?);
-    assert!(rt; !contains(&rt, &same, "ann", "team")?);
-    assert_eq!(rt; table.find(named(&rt, "memo")), None);
-    assert_eq!(rt; same.find(named(&rt, "memo")), Some(ElementId(8)));
-    assert_eq!(rt; table.find(named(&rt, "leads")), None);
-    assert_eq!(rt; same.find(named(&rt, "leads")), Some(ElementId(10)));
-    Ok(())
 }
 
 #[test]

@@ -27,7 +27,6 @@ impl Tables {
     pub(crate) fn share(&mut self) -> Result<(), Memory>
         ensures { IsSame self.old self.new }
     {
-        self.elements.share()?;
         self.assoc.share()?;
         self.deny.share()?;
         self.procs.share()
