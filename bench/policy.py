@@ -1,7 +1,8 @@
 """A policy at random, the same in each run: the lines that make it, and a plain program of what a decision is.
 
-Three classes hold 300 user attributes and 300 object attributes, six levels deep, with 2,000 users and 4,000 objects,
-each fourth object in two classes. `root` is in three user attributes of the last level, and asks by process 1.
+Three classes hold 300 user attributes and 300 object attributes, six levels deep, with 2,000 users and 4,000 objects if
+not told otherwise, each fourth object in two classes. `root` is in three user attributes of the last level, and asks by
+the last of its processes.
 """
 import random
 from collections import Counter
@@ -11,6 +12,7 @@ from yardstick import PROGRAM
 
 CLASSES, LEVELS, WIDE, USERS, OBJECTS = 3, 6, 50, 2000, 4000
 PROCESSES = 20
+ASKER, UNKNOWN = PROCESSES, 99  # of one length in a line
 GRANTED = "", '"ok":"granted"'
 
 
@@ -20,13 +22,18 @@ def joined(pairs):
     return "".join(lines).encode(), "".join(replies).encode(), len(lines)
 
 
+def access_by(process, i, right, target):
+    return '{"cmd":"access","id":%d,"proc":%d,"right":"%s","target":"%s"}\n' % (i, process, right, target)
+
+
 class Policy:
     """A graph with this many associations and prohibitions, and the lines that make it. `into` has the containers of
     each element, `above` what contains it, and `given` how many associations give a user a right at an element;
     `barring` has the prohibitions that apply to the asker, in order."""
 
-    def __init__(self, associations, prohibitions):
+    def __init__(self, associations, prohibitions, users=USERS, objects=OBJECTS):
         self.random = random.Random(1)
+        self.users, self.objects = users, objects
         self.into, self.above, self.associations = {}, {}, {}
         self.lines, self.replies, self.version = [], [], 0
         self.classes = [f"c{n}" for n in range(CLASSES)]
@@ -48,9 +55,9 @@ class Policy:
         for tree, cmd in (("u", "create_ua"), ("o", "create_oa")):
             for n in range(LEVELS * WIDE):
                 self.create(cmd, f"{tree}{n}", self.upper(tree, n))
-        for n in range(USERS):
+        for n in range(self.users):
             self.create("create_user", f"user{n}", self.last("u"))
-        for n in range(OBJECTS):
+        for n in range(self.objects):
             self.create("create_object", f"object{n}", self.last("o"))
             if n % 4 == 0:
                 self.assign(f"object{n}", self.last("o"))
@@ -104,14 +111,14 @@ class Policy:
         return Counter((right, at) for at, rights in standing for right in rights)
 
     def subject(self):
-        """A subject at random, and whether it is `root`, process 1, or an attribute that contains `root`."""
+        """A subject at random, and whether it is `root`, its process that asks, or an attribute that contains `root`."""
         kind = self.random.choice(("user", "ua", "process"))
         if kind == "process":
             number = 1 + self.random.randrange(PROCESSES)
-            return f'{{"process":{number}}}', number == 1
+            return f'{{"process":{number}}}', number == ASKER
         if kind == "user":
-            number = self.random.randrange(USERS + 1)
-            return ('{"user":"root"}', True) if number == USERS else (f'{{"user":"user{number}"}}', False)
+            number = self.random.randrange(self.users + 1)
+            return ('{"user":"root"}', True) if number == self.users else (f'{{"user":"user{number}"}}', False)
         name = f"u{self.random.randrange(LEVELS * WIDE)}"
         return f'{{"ua":"{name}"}}', name in self.above["root"]
 
@@ -121,7 +128,7 @@ class Policy:
         rights = self.random.choice((("read",), ("write",), ("read", "write"), ("assign", "review")))
         mode = self.random.choice(("all", "any"))
         inc = [f"o{WIDE + self.random.randrange(LEVELS * WIDE - WIDE)}" for _ in range(self.random.randrange(1, 3))]
-        exc = [f"object{self.random.randrange(OBJECTS)}"] if mode == "all" else []
+        exc = [f"object{self.random.randrange(self.objects)}"] if mode == "all" else []
         named = [",".join(f'"{item}"' for item in items) for items in (exc, inc, rights)]
         self.make(
             f'"cmd":"prohibit","exc":[{named[0]}],"inc":[{named[1]}],"mode":"{mode}","name":"{name}","proc":0,'
@@ -139,7 +146,7 @@ class Policy:
 
     def answer(self, user, right, target):
         """What the user is told: the first class of the target in which no association gives the right, else the first
-        prohibition that applies and covers, else granted. With prohibitions the user is `root`, by process 1."""
+        prohibition that applies and covers, else granted. With prohibitions the user is `root`, by its process that asks."""
         given = self.given[user]
         for name in self.classes:
             gives = (given.get((right, at)) and name in self.above[at] for at in self.above[target])
@@ -155,16 +162,23 @@ class Policy:
         return joined(tuple('{"id":%d,%s}\n' % (i, text) for text in pair) for i, pair in enumerate(pairs))
 
     def access(self, i):
-        """An access at random by process 1, and its reply."""
-        right, target = self.random.choice(("read", "write")), f"object{self.random.randrange(OBJECTS)}"
-        line = '{"cmd":"access","id":%d,"proc":1,"right":"%s","target":"%s"}\n' % (i, right, target)
-        return line, self.replied(i, self.answer("root", right, target))
+        """An access at random by the process that asks, and its reply."""
+        right, target = self.random.choice(("read", "write")), f"object{self.random.randrange(self.objects)}"
+        return access_by(ASKER, i, right, target), self.replied(i, self.answer("root", right, target))
+
+    def unknown(self, i):
+        """An access of the same length that is refused before anything is decided, and its reply."""
+        right, target = self.random.choice(("read", "write")), f"object{self.random.randrange(self.objects)}"
+        return access_by(UNKNOWN, i, right, target), self.replied(i, ("", '"no":"unknown_process"'))
 
     def replied(self, i, answer):
         return '{%s"id":%d,%s,"v":%d}\n' % (answer[0], i, answer[1], self.version)
 
     def accesses(self, count):
         return joined(self.access(i) for i in range(count))
+
+    def refused(self, count):
+        return joined(self.unknown(i) for i in range(count))
 
 
 def build_up(policy):

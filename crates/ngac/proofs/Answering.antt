@@ -1,8 +1,7 @@
 -- Lines are answered, one after another.
-use Rattle.std.proofs.Common.{◌≡◌, ◌<◌, ℕ, List, [], ◌∷◌, ◌++◌, length, Option, None, Some, option_map, refl, sym, ◌∙◌, ap, arith, subst, length-append}
+use Rattle.std.proofs.Common.{◌≡◌, ◌<◌, ℕ, List, [], ◌∷◌, ◌++◌, length, Option, None, Some, option_map, refl, sym, ◌∙◌, ap, arith, append_assoc, length-append}
 use Rattle.std.proofs.lemmas.List.{append-nil}
 use Rattle.std.proofs.lemmas.Option.{none-some, same_Some}
-use Rattle.std.specs.Io.KnownBytes.{Appends}
 use Rattle.pm_model.specs.State.{State}
 use Rattle.pm_model.specs.Answer.{after}
 use Rattle.pm_model.specs.Lines.{Event, cut, event_of}
@@ -10,10 +9,11 @@ use Rattle.pm_model.specs.Solo.{asked_at, answer_what, line_told, reply_to, repl
 use Rattle.pm_model.specs.declared.requests.Asked.{Asked}
 use Rattle.pm_session.proofs.LineLaws.{IsCut-cut, events-cut}
 use Rattle.pm_session.specs.Taken.{rest_of}
-use Rattle.ngac.specs.Coming.{coming, ahead}
+use Rattle.ngac.specs.Coming.{coming, ahead, state_past}
 use Rattle.ngac.specs.Parts.{next_asked}
-use Rattle.ngac.specs.Wrote.{Wrote, WroteWhole, WrotePart}
-use Rattle.ngac.proofs.Writing.{Wrote-then, Wrote-then_part, IsProperFront-before}
+use Rattle.ngac.specs.Wrote.{WrotePart, Moved, Answered, AnsweredWhole}
+use Rattle.ngac.proofs.Known.{Appends-nil, Appends-append}
+use Rattle.ngac.proofs.Writing.{replies-append, state_past-append, IsProperFront-behind, IsProperFront-before}
 
 -- what is asked, by how the bytes are cut
 abbrev asked_of : Option (List ℕ × List ℕ) → Option Asked
@@ -45,58 +45,69 @@ next-line w a h = next-by (cut w) w a refl h
 reply-is : (S : State) (o : List ℕ) (a : Asked) (event : Event) → a ≡ asked_at event → o ≡ line_told a.id S (answer_what S a.what) → o ≡ reply_to S event
 reply-is S o a event asked is = is ∙ ap (λ (b : Asked). line_told b.id S (answer_what S b.what)) asked
 
--- the line's reply was written
-pub wrote-line : (S : State) (w o : List ℕ) (a : Asked) (before now : Option (List ℕ)) → NextLine w a
-    → o ≡ line_told a.id S (answer_what S a.what) → Appends before now o
-    → Wrote before now S (after S (answer_what S a.what)) (coming w) (coming (rest_of w (cut w)))
-wrote-line S w o a before now next is app = record {
-  lines = next.event ∷ [];
-  appended = subst (Appends before now) (reply-is S o a next.event next.asked is ∙ sym (append-nil (reply_to S next.event))) app;
-  state = ap (λ (b : Asked). after S (answer_what S b.what)) next.asked;
-  told = next.told;
-}
+-- ---- what was written and what stands in the output, together
 
--- a part of it was
-pub wrote-line_part : (S : State) (w o : List ℕ) (a : Asked) (before now : Option (List ℕ)) → NextLine w a
-    → o ≡ line_told a.id S (answer_what S a.what) → WrotePart before now (λ _. o)
-    → WrotePart before now (ahead S (coming w))
-wrote-line_part S w o a before now next is part = record {
-  written = part.written;
-  appended = part.appended;
-  told = λ more.
-      let later = replies (after S (answer_what S (asked_at next.event).what)) (coming (rest_of w (cut w)) more) in
-      IsProperFront-before part.written o later (replies S (coming w more)) (part.told more)
-      (ap (replies S) (next.told more) ∙ ap (λ l. l ++ later) (sym (reply-is S o a next.event next.asked is)));
+-- nothing yet
+pub answered-none : (before : Option (List ℕ)) (output : List ℕ) (S : State) (from : List ℕ → List Event) → output ≡ [] → Answered before before output S S from from
+answered-none before output S from none = record {
+  lines = [];
+  written = [];
+  appended = Appends-nil before;
+  together = none;
+  state = refl;
+  told = λ more. refl;
 }
-
--- what was done so far
-pub record Answering (before now : Option (List ℕ)) (first count : ℕ) (S T : State) (from to : List ℕ → List Event) (output : List ℕ) : Type 0 where
-  pub wrote : Wrote before now S T from to
-  pub sent : output ≡ []
-  pub kept : count ≡ first
 
 -- one more line was answered
-pub answering-more : (before mid now : Option (List ℕ)) (f0 f1 f2 : ℕ) (from : List ℕ → List Event) (R S T : State) (w v o out out_after : List ℕ) (a : Asked)
-    → Answering before mid f0 f1 R S from (coming w) out → Some a ≡ next_asked w
-    → o ≡ line_told a.id S (answer_what S a.what) → Appends mid now o
-    → T ≡ after S (answer_what S a.what) → v ≡ rest_of w (cut w) → out_after ≡ [] → f2 ≡ f1
-    → Answering before now f0 f2 R T from (coming v) out_after
-answering-more before mid now f0 f1 f2 from R S T w v o out out_after a h next is app state rest sent kept = record {
-  wrote = rw (state, rest) (Wrote-then before mid now R S (after S (answer_what S a.what)) from (coming w) (coming (rest_of w (cut w))) h.wrote
-      (wrote-line S w o a mid now (next-line w a next) is app));
-  sent = sent;
-  kept = kept ∙ h.kept;
+pub answered-line : (before now : Option (List ℕ)) (o p : List ℕ) (R S T : State) (from : List ℕ → List Event) (w v : List ℕ) (a : Asked)
+    → Answered before now o R S from (coming w) → NextLine w a
+    → p ≡ o ++ line_told a.id S (answer_what S a.what) → T ≡ after S (answer_what S a.what) → v ≡ rest_of w (cut w)
+    → Answered before now p R T from (coming v)
+answered-line before now o p R S T from w v a h next is state rest =
+    let one = reply-is S (line_told a.id S (answer_what S a.what)) a next.event next.asked refl in
+    record {
+      lines = h.lines ++ next.event ∷ [];
+      written = h.written;
+      appended = h.appended;
+      together =
+          ap (λ l. h.written ++ l) (is ∙ ap (λ l. o ++ l) one) ∙ sym (append_assoc h.written o (reply_to S next.event))
+          ∙ ap (λ l. l ++ reply_to S next.event) h.together
+          ∙ ap (λ l. replies R h.lines ++ l) (sym (append-nil (reply_to S next.event)))
+          ∙ ap (λ t. replies R h.lines ++ replies t (next.event ∷ [])) h.state
+          ∙ sym (replies-append R h.lines (next.event ∷ []));
+      state =
+          state ∙ ap (λ (b : Asked). after S (answer_what S b.what)) next.asked
+          ∙ ap (λ t. state_past t (next.event ∷ [])) h.state ∙ sym (state_past-append R h.lines (next.event ∷ []));
+      told = λ more.
+          h.told more ∙ ap (λ l. h.lines ++ l) (next.told more ∙ ap (λ l. next.event ∷ coming l more) (sym rest))
+          ∙ sym (append_assoc h.lines (next.event ∷ []) (coming v more));
+    }
+
+-- what is written out of the output changes nothing of the whole
+pub answered-moved : (before now later : Option (List ℕ)) (o q p : List ℕ) (S T : State) (from to : List ℕ → List Event)
+    → Answered before now o S T from to → q ≡ o → Moved now later q p → Answered before later p S T from to
+answered-moved before now later o q p S T from to h same moved = record {
+  lines = h.lines;
+  written = h.written ++ moved.written;
+  appended = Appends-append before now later h.written moved.written h.appended moved.appended;
+  together = append_assoc h.written moved.written p ∙ ap (λ l. h.written ++ l) (sym moved.split ∙ same) ∙ h.together;
+  state = h.state;
+  told = h.told;
 }
 
--- its reply was not written whole
-pub answering-part : (before mid now : Option (List ℕ)) (f0 f1 : ℕ) (from : List ℕ → List Event) (R S : State) (w o out : List ℕ) (a : Asked)
-    → Answering before mid f0 f1 R S from (coming w) out → Some a ≡ next_asked w
-    → o ≡ line_told a.id S (answer_what S a.what) → WrotePart mid now (λ _. o)
-    → WrotePart before now (ahead R from)
-answering-part before mid now f0 f1 from R S w o out a h next is part =
-    Wrote-then_part before mid now R S from (coming w) h.wrote (wrote-line_part S w o a mid now (next-line w a next) is part)
+-- where it isn't written whole, a front is written with something missing
+pub answered-part : (before now later : Option (List ℕ)) (o q : List ℕ) (S T : State) (from to : List ℕ → List Event)
+    → Answered before now o S T from to → q ≡ o → WrotePart now later (λ _. q) → WrotePart before later (ahead S from)
+answered-part before now later o q S T from to h same part = record {
+  written = h.written ++ part.written;
+  appended = Appends-append before now later h.written part.written h.appended part.appended;
+  told = λ more.
+      IsProperFront-before (h.written ++ part.written) (replies S h.lines) (replies (state_past S h.lines) (to more)) (replies S (from more))
+      (IsProperFront-behind h.written part.written q (replies S h.lines) (part.told more) (sym (ap (λ l. h.written ++ l) same ∙ h.together)))
+      (ap (replies S) (h.told more) ∙ replies-append S h.lines (to more));
+}
 
--- it got no reply, and changed nothing
-pub answering-whole : (before now : Option (List ℕ)) (f0 f1 : ℕ) (S T U : State) (from to : List ℕ → List Event) (out : List ℕ)
-    → Answering before now f0 f1 S T from to out → U ≡ T → WroteWhole before now S U from
-answering-whole before now f0 f1 S T U from to out h same = rw same (to, h.wrote)
+-- a line got no reply, and changed nothing
+pub answered-whole : (before now : Option (List ℕ)) (o p : List ℕ) (S T U : State) (from to : List ℕ → List Event)
+    → Answered before now o S T from to → p ≡ o → U ≡ T → AnsweredWhole before now p S U from
+answered-whole before now o p S T U from to h same kept = rw (same, kept) (to, h)

@@ -1,4 +1,4 @@
-//! The whole lines that wait are answered, and their replies written.
+//! The whole lines that wait are answered, and their replies written together.
 ghost use Rattle.std.specs.Prelude.{◌≡◌, ◌≤◌, ◌<◌, ◌+◌, ◌++◌, [], None, Err, length, drop, IfOk, OnOk, OnErr};
 ghost use Rattle.std.specs.Io.{WritesAtMost};
 ghost use Rattle.std.specs.Io.KnownBytes.{Appends, WriteAppends};
@@ -8,7 +8,7 @@ ghost use Rattle.pm_model.specs.Solo.{asked_at, answer_what, line_told};
 ghost use Rattle.pm_model.specs.Answer.{after};
 ghost use Rattle.pm_model.specs.History.{state_of};
 ghost use Rattle.pm_session.specs.Taken.{shown, rest_of};
-ghost use Rattle.ngac.specs.Wrote.{Wrote, WroteWhole, WrotePart};
+ghost use Rattle.ngac.specs.Wrote.{Wrote, WroteWhole, WrotePart, Moved, Answered, AnsweredWhole};
 ghost use Rattle.ngac.specs.Coming.{coming, ahead};
 ghost use Rattle.ngac.specs.Parts.{next_asked, HasStopCause};
 
@@ -115,6 +115,7 @@ fn answer(session: &mut Session, solo: &mut Solo, asked: Asked) -> Result<(), Me
     ensures output { OnOk result (session.new.output ≡ session.old.output ++ line_told asked.id (state_of solo.old) (answer_what (state_of solo.old) asked.what)) }
     ensures state { OnOk result (state_of solo.new ≡ after (state_of solo.old) (answer_what (state_of solo.old) asked.what)) }
     ensures err { OnErr result (state_of solo.new ≡ state_of solo.old) }
+    ensures kept { OnErr result (session.new.output ≡ session.old.output) }
     ensures waiting { session.new.waiting ≡ session.old.waiting }
     ensures capacity { session.old.capacity ≤ session.new.capacity }
 {
@@ -144,7 +145,50 @@ fn send<O: Sink>(session: &mut Session, out: &mut O) -> Result<(), Failed>
     Ok(())
 }
 
-/// Answers each whole line that waits.
+// Room for a reply: where it is lacking, what stands in the output is written first.
+fn make_room<O: Sink>(session: &mut Session, out: &mut O) -> Result<(), Failed>
+    requires { LONGEST_REPLY ≤ session.old.capacity }
+    ensures ok { OnOk result (Moved (O.taken out.old) (O.taken out.new) session.old.output session.new.output) }
+    ensures room { OnOk result (length session.new.output + LONGEST_REPLY ≤ session.new.capacity) }
+    ensures err { OnErr result (WrotePart (O.taken out.old) (O.taken out.new) (λ _. session.old.output)) }
+    ensures cause { HasCause (O.faults out.old) (O.faults out.new) result }
+    ensures waiting { session.new.waiting ≡ session.old.waiting }
+    ensures capacity { session.new.capacity ≡ session.old.capacity }
+{
+    if session.has_room() {
+        return Ok(());
+    }
+    send(session, out)
+}
+
+// Answers each whole line that waits. Replies are written only to make room for others, so the last
+// of them stand in the output, want of memory or not.
+fn answer_waiting<O: Sink>(
+    alloc: Global,
+    session: &mut Session,
+    solo: &mut Solo,
+    out: &mut O,
+) -> Result<(), Stop>
+    requires sent { session.old.output ≡ [] }
+    requires room { LONGEST_REPLY ≤ session.old.capacity }
+    ensures ok { OnOk result (Answered (O.taken out.old) (O.taken out.new) session.new.output (state_of solo.old) (state_of solo.new)
+        (coming session.old.waiting) (coming session.new.waiting)) }
+    ensures drained { OnOk result (cut session.new.waiting ≡ None) }
+    ensures room { OnOk result (LONGEST_REPLY ≤ session.new.capacity) }
+    ensures fault { result ≡ Err Stop.WriteFault
+        → WrotePart (O.taken out.old) (O.taken out.new) (ahead (state_of solo.old) (coming session.old.waiting)) }
+    ensures memory { result ≡ Err Stop.Memory
+        → AnsweredWhole (O.taken out.old) (O.taken out.new) session.new.output (state_of solo.old) (state_of solo.new) (coming session.old.waiting) }
+    ensures cause { HasStopCause (O.faults out.old) (O.faults out.new) result }
+{
+    while let Some(asked) = next_asked(alloc, session)? {
+        make_room(session, out)?;
+        answer(session, solo, asked)?;
+    }
+    Ok(())
+}
+
+/// Answers each whole line that waits. No reply is left unwritten but after a write fault.
 pub(crate) fn answer_lines<O: Sink>(
     alloc: Global,
     session: &mut Session,
@@ -164,9 +208,15 @@ pub(crate) fn answer_lines<O: Sink>(
         → WroteWhole (O.taken out.old) (O.taken out.new) (state_of solo.old) (state_of solo.new) (coming session.old.waiting) }
     ensures cause { HasStopCause (O.faults out.old) (O.faults out.new) result }
 {
-    while let Some(asked) = next_asked(alloc, session)? {
-        answer(session, solo, asked)?;
-        send(session, out)?;
+    match answer_waiting(alloc, session, solo, out) {
+        Err(Stop::WriteFault) => Err(Stop::WriteFault),
+        Err(Stop::Memory) => {
+            send(session, out)?;
+            Err(Stop::Memory)
+        }
+        Ok(()) => {
+            send(session, out)?;
+            Ok(())
+        }
     }
-    Ok(())
 }

@@ -4,7 +4,7 @@ use crate::run::run_lines;
 use crate::statuses::Status;
 use crate::top::top;
 use pm_io::{CalmSource, MemSink, MemSource};
-use pm_model::{Failed, Source};
+use pm_model::{Failed, Sink, Source};
 use std::alloc::{AllocError, Global};
 use std::env::Args;
 use std::io::{Error, ErrorKind};
@@ -109,20 +109,73 @@ fn faults_end_the_run(rt: HostRuntime) -> Result<(), Fail> {
         writes: &[1],
         ..CALM
     };
-    let second_write = Outside {
-        writes: &[2],
-        ..CALM
-    };
     let little_room = Outside { room: 5, ..CALM };
     let table = [
         (second_read, Status::ReadFault, both.as_slice()),
         (first_read, Status::ReadFault, b""),
         (first_write, Status::WriteFault, b""),
-        (second_write, Status::WriteFault, DONE),
         (little_room, Status::WriteFault, b"{\"id\""),
     ];
     for (outside, status, output) in table {
         check_run(&rt, &outside, &twice, status, output)?;
+    }
+    Ok(())
+}
+
+// A sink, and how many writes it was asked for.
+#[derive(Drop)]
+struct Counted {
+    sink: MemSink,
+    writes: u64,
+}
+
+impl Sink for Counted {
+    ghost use Rattle.std.specs.Prelude.{Some};
+
+    ghost taken = { λ s. Some s.sink.taken };
+
+    ghost faults = { λ s. s.sink.faults };
+
+    fn write(&mut self, piece: &[u8]) -> Result<usize, Failed> {
+        self.writes = self.writes.saturating_add(1);
+        self.sink.write(piece)
+    }
+}
+
+// An empty line is bad, which a reply of 24 bytes says. 4,096 of them are one piece, whose replies
+// are more than 65,536 bytes: so 2,689 are written first, since for one more there is no room of
+// 1,024 bytes.
+#[test]
+fn replies_to_a_piece_are_written_together(rt: HostRuntime) -> Result<(), Fail> {
+    let alloc = rt.alloc();
+    let twice = joined(alloc, &[FILES, FILES])?;
+    let feeds = [b'\n'; 4096].as_slice();
+    let table = [
+        (
+            twice.as_slice(),
+            [9, 9],
+            Status::Done,
+            1,
+            DONE.len() + TAKEN.len(),
+        ),
+        (
+            &twice,
+            [2, 9],
+            Status::ReadFault,
+            1,
+            DONE.len() + TAKEN.len(),
+        ),
+        (feeds, [9, 9], Status::Done, 2, 4096 * 24),
+        (feeds, [9, 2], Status::WriteFault, 2, 2689 * 24),
+    ];
+    for (input, [read, write], status, writes, bytes) in table {
+        let mut source = MemSource::new(alloc, input, &[read])?;
+        let sink = MemSink::new(alloc, 2 * ROOM, &[write])?;
+        let mut out = Counted { sink, writes: 0 };
+        let found = run_lines(alloc, LIMIT, &mut source, &mut out);
+        assert_eq!(rt; found, status);
+        assert_eq!(rt; out.writes, writes);
+        assert_eq!(rt; out.sink.taken().len(), bytes);
     }
     Ok(())
 }

@@ -2,9 +2,11 @@
 use Rattle.std.proofs.Common.{◌≡◌, ◌+◌, ◌<◌, ℕ, List, [], ◌∷◌, ◌++◌, length, map, drop, slice_get, Option, Some, None, IsSome, refl, sym, ◌∙◌, ap, subst, arith}
 use Rattle.std.proofs.lemmas.Option.{slice_get-get_or}
 use Rattle.pm_model.specs.State.{Graph, root}
-use Rattle.pm_model.specs.Authority.{denial_in, denied_unless, first_denied, prohibited_at, required, to_prohibit, to_prohibit_to, subject_element}
+use Rattle.pm_model.specs.Authority.{denial_in, denied_unless, first_denied, prohibited_at, watched_at, obliged_at, required, to_prohibit, to_prohibit_to, subject_element}
 use Rattle.pm_model.specs.declared.elements.Kind.{Kind}
 use Rattle.pm_model.specs.declared.elements.Kind.TheVariants.{User, Ua, Object, Oa, Pc}
+use Rattle.pm_model.specs.declared.events.Pattern.{Pattern}
+use Rattle.pm_model.specs.declared.obligations.Obligation.{Obligation}
 use Rattle.pm_model.specs.declared.prohibitions.Prohibition.{Prohibition}
 use Rattle.pm_model.specs.declared.requests.Change.{Change}
 use Rattle.pm_model.specs.declared.requests.Change.TheVariants as change
@@ -102,6 +104,16 @@ root-lift : (G : Graph) (q : Option ℕ) (o : Option Prohibition) → first_deni
 root-lift G q None = refl
 root-lift G q (Some p) = refl
 
+root-watch : (G : Graph) (q : Option ℕ) (p : Pattern) → first_denied G root q (watched_at p) ≡ None
+root-watch G q p = of p.user refl where
+  of : (user : Option ℕ) → p.user ≡ user → first_denied G root q (watched_at p) ≡ None
+  of (Some x) is = rw is refl
+  of None is = rw is refl
+
+root-withdraw : (G : Graph) (q : Option ℕ) (o : Option Obligation) → first_denied G root q (obliged_at o) ≡ None
+root-withdraw G q None = refl
+root-withdraw G q (Some o) = root-watch G q o.pattern
+
 root-create : (G : Graph) (q : Option ℕ) (id : ℕ) (kind : Kind) (name : List ℕ) (into : Option ℕ) →
     first_denied G root q (required G (change.Create id kind name into)) ≡ None
 root-create G q id User name None = refl
@@ -124,6 +136,8 @@ root-allowed G q (change.Associate u r t) = refl
 root-allowed G q (change.Dissociate u t) = refl
 root-allowed G q (change.Prohibit p) = root-places G q (p.inc ++ p.exc)
 root-allowed G q (change.Lift i) = root-lift G q (slice_get G.prohibitions i)
+root-allowed G q (change.Oblige o) = root-watch G q o.pattern
+root-allowed G q (change.Withdraw i) = root-withdraw G q (slice_get G.obligations i)
 root-allowed G q (change.DefineRight name) = refl
 root-allowed G q (change.OpenSession u) = refl
 root-allowed G q (change.CloseSession n) = refl

@@ -3,3 +3,4 @@ mod Granting
 mod Places
 mod Reasons
 mod RightNames
+mod Watched

@@ -1,5 +1,5 @@
 -- A verdict tells the reason of a denial.
-use Rattle.std.proofs.Common.{◌≡◌, ℕ, Bool, List, Option, None, Some, refl, inl, inr}
+use Rattle.std.proofs.Common.{◌≡◌, ℕ, Bool, List, Option, refl, inl, inr}
 use Rattle.std.proofs.lemmas.Option.{slice_get_within}
 use Rattle.pm_model.specs.Authority.{reason_of}
 use Rattle.pm_model.specs.Decision.{lacking, forbidding}

@@ -1,7 +1,6 @@
 //! The ruling on an access.
-ghost use Rattle.std.specs.Prelude.{◌≡◌, ◌<◌, IfOk, Some};
+ghost use Rattle.std.specs.Prelude.{◌≡◌, ◌<◌, IfOk};
 ghost use Rattle.pm_model.specs.Answer.{acting, if_access, accessed, reply_or};
-ghost use Rattle.pm_model.specs.Authority.{denial_in};
 ghost use Rattle.pm_model.specs.RightSet.{bit_named};
 ghost use Rattle.pm_model.specs.Formed.{IsLive};
 ghost use Rattle.pm_admin.specs.Ruled.{allowed_unless, reply_by};
@@ -9,7 +8,7 @@ ghost use Rattle.pm_admin.specs.Ruled.{allowed_unless, reply_by};
 use crate::denials::denial;
 use crate::names::look_up;
 use crate::rulings::Ruling;
-use pm_model::{ElementId, Memory, Name, Reason, Refusal, is_access_right};
+use pm_model::{ElementId, Name, Reason, Refusal, is_access_right};
 use pm_state::Graph;
 
 /// The user for whom a process acts; `UnknownProcess` exactly where it isn't live.
@@ -40,25 +39,6 @@ fn access_right(graph: &Graph, name: Name) -> Result<u8, Refusal>
     }
 }
 
-fn denial_of_access(
-    graph: &Graph,
-    user: ElementId,
-    process: u32,
-    right: u8,
-    target: ElementId,
-) -> Result<Option<Reason>, Memory>
-    requires right { right < 64 }
-    requires user { IsLive graph.now.elements user }
-    requires target { IsLive graph.now.elements target }
-    ensures { IfOk result (λ d. d ≡ denial_in graph.now user (Some process) right target) }
-{
-    let mut reach = match graph.elements().paths() {
-        Ok(reach) => reach,
-        Err(Memory) => return Err(Memory),
-    };
-    Ok(denial(graph, &mut reach, user, Some(process), right, target))
-}
-
 fn allowed_unless(right: Name, target: ElementId, denial: Option<Reason>) -> Ruling
     ensures { result ≡ allowed_unless right target denial }
 {
@@ -74,27 +54,25 @@ fn allowed_unless(right: Name, target: ElementId, denial: Option<Reason>) -> Rul
 
 /// Whether the user and the process may use the right on the target: the right's name, which is one of
 /// an access right, and the target's name are looked up in this order; then comes the reason of a
-/// denial.
+/// denial. It takes no memory.
 pub fn authorise_access(
     graph: &Graph,
     user: ElementId,
     process: u32,
     right: Name,
     target: Name,
-) -> Result<Ruling, Memory>
+) -> Ruling
     requires { IsLive graph.now.elements user }
-    ensures { IfOk result (λ r. reply_by r ≡ reply_or (accessed graph.now user process right target)) }
+    ensures { reply_by result ≡ reply_or (accessed graph.now user process right target) }
 {
     let bit = match access_right(graph, right) {
         Ok(bit) => bit,
-        Err(why) => return Ok(Ruling::Refused(why)),
+        Err(why) => return Ruling::Refused(why),
     };
     let element = match look_up(graph, target) {
         Ok(element) => element,
-        Err(why) => return Ok(Ruling::Refused(why)),
+        Err(why) => return Ruling::Refused(why),
     };
-    match denial_of_access(graph, user, process, bit, element) {
-        Ok(denial) => Ok(allowed_unless(right, element, denial)),
-        Err(Memory) => Err(Memory),
-    }
+    let reason = denial(graph, user, Some(process), bit, element);
+    allowed_unless(right, element, reason)
 }

@@ -4,12 +4,10 @@ ghost use Rattle.pm_model.specs.declared.elements.Kind.{Kind};
 ghost use Rattle.pm_model.specs.declared.requests.Change.TheVariants as change;
 ghost use Rattle.pm_model.specs.Authority.{first_denied, required, right_name, right_to_create, subject_element, to_prohibit_to};
 ghost use Rattle.pm_model.specs.Formed.{Each, IsLive, IsNamed, IsSubjectLive};
-ghost use Rattle.pm_admin.specs.Containing.{shown_by};
 
 use crate::denials::denial;
-use pm_model::{
-    Bars, Change, ElementId, Kind, Name, PlaceList, Prohibition, Reach, Refusal, Subject,
-};
+use crate::obliging::{denied_oblige, denied_withdraw};
+use pm_model::{Bars, Change, ElementId, Kind, Name, PlaceList, Prohibition, Refusal, Subject};
 use pm_state::Graph;
 
 const TO_DELETE: u8 = 6;
@@ -26,7 +24,7 @@ const DEASSIGN: (u8, u8) = (9, 10);
 const ASSOCIATE: (u8, u8) = (11, 12);
 
 // The policy class of the opening, on which what has no container is asked for.
-const PM: ElementId = ElementId(0);
+pub(crate) const PM: ElementId = ElementId(0);
 
 fn right_to_create(kind: Kind) -> u8
     ensures value { result ≡ right_to_create kind }
@@ -49,22 +47,19 @@ fn right_name(graph: &Graph, right: u8) -> Name
     graph.right_name(right).unwrap()
 }
 
-fn denied<R: Reach>(
+pub(crate) fn denied(
     graph: &Graph,
-    reach: &mut R,
     user: ElementId,
     process: Option<u32>,
     right: u8,
     element: ElementId,
 ) -> Option<Refusal>
-    requires reach { R.relation reach.old ≡ shown_by graph.now }
     requires right { right < 17 }
     requires user { IsLive graph.now.elements user }
     requires element { IsLive graph.now.elements element }
-    ensures answer { result ≡ first_denied graph.now user process ((right, element) ∷ []) }
-    ensures same { R.relation reach.new ≡ R.relation reach.old }
+    ensures { result ≡ first_denied graph.now user process ((right, element) ∷ []) }
 {
-    match denial(graph, reach, user, process, right, element) {
+    match denial(graph, user, process, right, element) {
         None => None,
         Some(reason) => Some(Refusal::Denied {
             right: right_name(graph, right),
@@ -74,45 +69,39 @@ fn denied<R: Reach>(
     }
 }
 
-fn denied_pair<R: Reach>(
+pub(crate) fn denied_pair(
     graph: &Graph,
-    reach: &mut R,
     user: ElementId,
     process: Option<u32>,
     rights: (u8, u8),
     x: ElementId,
     y: ElementId,
 ) -> Option<Refusal>
-    requires reach { R.relation reach.old ≡ shown_by graph.now }
     requires first { rights.0 < 17 }
     requires second { rights.1 < 17 }
     requires user { IsLive graph.now.elements user }
     requires x { IsLive graph.now.elements x }
     requires y { IsLive graph.now.elements y }
-    ensures answer { result ≡ first_denied graph.now user process ((rights.0, x) ∷ (rights.1, y) ∷ []) }
-    ensures same { R.relation reach.new ≡ R.relation reach.old }
+    ensures { result ≡ first_denied graph.now user process ((rights.0, x) ∷ (rights.1, y) ∷ []) }
 {
-    match denied(graph, reach, user, process, rights.0, x) {
+    match denied(graph, user, process, rights.0, x) {
         Some(why) => Some(why),
-        None => denied(graph, reach, user, process, rights.1, y),
+        None => denied(graph, user, process, rights.1, y),
     }
 }
 
-fn denied_on_places<R: Reach>(
+fn denied_on_places(
     graph: &Graph,
-    reach: &mut R,
     user: ElementId,
     process: Option<u32>,
     places: &PlaceList,
 ) -> Option<Refusal>
-    requires reach { R.relation reach.old ≡ shown_by graph.now }
     requires user { IsLive graph.now.elements user }
     requires places { Each (IsLive graph.now.elements) places.now }
-    ensures answer { result ≡ first_denied graph.now user process (map (λ a. (to_prohibit_to, a)) places.now) }
-    ensures same { R.relation reach.new ≡ R.relation reach.old }
+    ensures { result ≡ first_denied graph.now user process (map (λ a. (to_prohibit_to, a)) places.now) }
 {
     for i in 0..places.len() {
-        match denied(graph, reach, user, process, TO_PROHIBIT_TO, *places.at(i)) {
+        match denied(graph, user, process, TO_PROHIBIT_TO, *places.at(i)) {
             Some(why) => return Some(why),
             None => {}
         }
@@ -137,64 +126,49 @@ fn subject_element(graph: &Graph, subject: Subject<ElementId, u32>) -> ElementId
     }
 }
 
-fn denied_prohibit<R: Reach>(
+fn denied_prohibit(
     graph: &Graph,
-    reach: &mut R,
     user: ElementId,
     process: Option<u32>,
     item: &Prohibition,
 ) -> Option<Refusal>
-    requires reach { R.relation reach.old ≡ shown_by graph.now }
     requires user { IsLive graph.now.elements user }
     requires named { IsNamed graph.now (change.Prohibit item.now) }
-    ensures answer { result ≡ first_denied graph.now user process (required graph.now (change.Prohibit item.now)) }
-    ensures same { R.relation reach.new ≡ R.relation reach.old }
+    ensures { result ≡ first_denied graph.now user process (required graph.now (change.Prohibit item.now)) }
 {
     let subject = subject_element(graph, item.subject);
-    match denied(graph, reach, user, process, TO_PROHIBIT, subject) {
+    match denied(graph, user, process, TO_PROHIBIT, subject) {
         Some(why) => return Some(why),
         None => {}
     }
-    match denied_on_places(graph, reach, user, process, &item.inc) {
+    match denied_on_places(graph, user, process, &item.inc) {
         Some(why) => return Some(why),
         None => {}
     }
-    denied_on_places(graph, reach, user, process, &item.exc)
+    denied_on_places(graph, user, process, &item.exc)
 }
 
-fn denied_lift<R: Reach>(
-    graph: &Graph,
-    reach: &mut R,
-    user: ElementId,
-    process: Option<u32>,
-    index: u32,
-) -> Option<Refusal>
-    requires reach { R.relation reach.old ≡ shown_by graph.now }
+fn denied_lift(graph: &Graph, user: ElementId, process: Option<u32>, index: u32) -> Option<Refusal>
     requires user { IsLive graph.now.elements user }
     requires named { IsNamed graph.now (change.Lift index) }
-    ensures answer { result ≡ first_denied graph.now user process (required graph.now (change.Lift index)) }
-    ensures same { R.relation reach.new ≡ R.relation reach.old }
+    ensures { result ≡ first_denied graph.now user process (required graph.now (change.Lift index)) }
 {
     graph.formed();
     let item = graph.deny().at(index as usize);
     let subject = subject_element(graph, item.subject);
-    denied(graph, reach, user, process, TO_PROHIBIT, subject)
+    denied(graph, user, process, TO_PROHIBIT, subject)
 }
 
 /// The refusal of the first capability that the change asks for and the user and the process haven't.
-/// The search is one of the graph's assignments.
-pub(crate) fn denied_change<R: Reach>(
+pub(crate) fn denied_change(
     graph: &Graph,
-    reach: &mut R,
     user: ElementId,
     process: Option<u32>,
     change: &Change,
 ) -> Option<Refusal>
-    requires reach { R.relation reach.old ≡ shown_by graph.now }
     requires user { IsLive graph.now.elements user }
     requires named { IsNamed graph.now change.now }
-    ensures answer { result ≡ first_denied graph.now user process (required graph.now change.now) }
-    ensures same { R.relation reach.new ≡ R.relation reach.old }
+    ensures { result ≡ first_denied graph.now user process (required graph.now change.now) }
 {
     graph.formed();
     match change {
@@ -202,27 +176,23 @@ pub(crate) fn denied_change<R: Reach>(
             kind,
             into: Some(into),
             ..
-        } => denied(graph, reach, user, process, right_to_create(*kind), *into),
+        } => denied(graph, user, process, right_to_create(*kind), *into),
         Change::Create {
             kind,
             into: None,
             ..
-        } => denied(graph, reach, user, process, right_to_create(*kind), PM),
-        Change::Delete { id } => denied(graph, reach, user, process, TO_DELETE, *id),
-        Change::Assign { from, to } => denied_pair(graph, reach, user, process, ASSIGN, *from, *to),
-        Change::Deassign { from, to } => denied_pair(
-            graph, reach, user, process, DEASSIGN, *from, *to,
-        ),
-        Change::Associate { ua, at, .. } => denied_pair(
-            graph, reach, user, process, ASSOCIATE, *ua, *at,
-        ),
-        Change::Dissociate { ua, at } => denied_pair(
-            graph, reach, user, process, ASSOCIATE, *ua, *at,
-        ),
-        Change::Prohibit { item } => denied_prohibit(graph, reach, user, process, item),
-        Change::Lift { index } => denied_lift(graph, reach, user, process, *index),
+        } => denied(graph, user, process, right_to_create(*kind), PM),
+        Change::Delete { id } => denied(graph, user, process, TO_DELETE, *id),
+        Change::Assign { from, to } => denied_pair(graph, user, process, ASSIGN, *from, *to),
+        Change::Deassign { from, to } => denied_pair(graph, user, process, DEASSIGN, *from, *to),
+        Change::Associate { ua, at, .. } => denied_pair(graph, user, process, ASSOCIATE, *ua, *at),
+        Change::Dissociate { ua, at } => denied_pair(graph, user, process, ASSOCIATE, *ua, *at),
+        Change::Prohibit { item } => denied_prohibit(graph, user, process, item),
+        Change::Lift { index } => denied_lift(graph, user, process, *index),
+        Change::Oblige { item } => denied_oblige(graph, user, process, item),
+        Change::Withdraw { index } => denied_withdraw(graph, user, process, *index),
         Change::DefineRight { .. } => {
-            denied(graph, reach, user, process, right_to_create(Kind::Pc), PM)
+            denied(graph, user, process, right_to_create(Kind::Pc), PM)
         }
         Change::OpenSession { .. }
         | Change::CloseSession { .. }

@@ -3,12 +3,11 @@ ghost use Rattle.std.specs.Prelude.{◌≡◌, ◌<◌, ◌==◌, ◌&&◌};
 ghost use Rattle.pm_model.specs.State.{root};
 ghost use Rattle.pm_model.specs.Authority.{denial_in, forbidding_in, is_administrative, lacking_in, reason_of};
 ghost use Rattle.pm_model.specs.Formed.{IsLive};
-ghost use Rattle.pm_admin.specs.Containing.{shown_by};
 ghost use Rattle.pm_admin.specs.Verdicts.{reason_by, IsPlaced};
 
 use pm_decide::{Verdict, decide};
 use pm_deny::Deny;
-use pm_model::{Bars, ElementId, Reach, Reason};
+use pm_model::{Bars, ElementId, Reason};
 use pm_state::Graph;
 
 /// The number of the root user.
@@ -39,49 +38,45 @@ fn reason_by(deny: &Deny, verdict: Verdict) -> Option<Reason>
 }
 
 // Why associations and prohibitions deny the right, if they do.
-fn reason<R: Reach>(
+fn reason(
     graph: &Graph,
-    reach: &mut R,
     user: ElementId,
     process: Option<u32>,
     right: u8,
     element: ElementId,
 ) -> Option<Reason>
-    requires reach { R.relation reach.old ≡ shown_by graph.now }
     requires right { right < 64 }
     requires user { IsLive graph.now.elements user }
     requires element { IsLive graph.now.elements element }
-    ensures answer { result ≡ reason_of (lacking_in graph.now user right element) (forbidding_in graph.now user process right element) }
-    ensures same { R.relation reach.new ≡ R.relation reach.old }
+    ensures { result ≡ reason_of (lacking_in graph.now user right element) (forbidding_in graph.now user process right element) }
 {
+    let mut reach = graph.reach();
     let assoc = graph.assoc();
     let deny = graph.deny();
     let classes = graph.classes();
     graph.formed();
     assoc.kept();
-    let verdict = decide(reach, assoc, deny, classes, user, process, right, element);
+    let verdict = decide(
+        &mut reach, assoc, deny, classes, user, process, right, element,
+    );
     reason_by(deny, verdict)
 }
 
-/// Why the right on the element is denied to the user and the process, if it is. The search is one of
-/// the graph's assignments.
-pub(crate) fn denial<R: Reach>(
+/// Why the right on the element is denied to the user and the process, if it is. It takes no memory.
+pub(crate) fn denial(
     graph: &Graph,
-    reach: &mut R,
     user: ElementId,
     process: Option<u32>,
     right: u8,
     element: ElementId,
 ) -> Option<Reason>
-    requires reach { R.relation reach.old ≡ shown_by graph.now }
     requires right { right < 64 }
     requires user { IsLive graph.now.elements user }
     requires element { IsLive graph.now.elements element }
-    ensures answer { result ≡ denial_in graph.now user process right element }
-    ensures same { R.relation reach.new ≡ R.relation reach.old }
+    ensures { result ≡ denial_in graph.now user process right element }
 {
     if is_roots(user, right) {
         return None;
     }
-    reason(graph, reach, user, process, right, element)
+    reason(graph, user, process, right, element)
 }

@@ -5,6 +5,7 @@ mod access;
 mod capabilities;
 mod denials;
 mod names;
+mod obliging;
 mod prohibiting;
 mod rulings;
 #[cfg(test)]

@@ -1,7 +1,7 @@
 //! A command's names as numbers.
-ghost use Rattle.std.specs.Prelude.{◌≡◌, Ok};
+ghost use Rattle.std.specs.Prelude.{◌≡◌, ◌≢◌, Ok, Err, true};
 ghost use Rattle.pm_model.specs.Resolve.{look_up, look_up_both, look_up_rights, resolve};
-ghost use Rattle.pm_admin.specs.Resolved.{Finds};
+ghost use Rattle.pm_admin.specs.Resolved.{Finds, is_prohibit};
 ghost use Rattle.pm_admin.specs.Rights.{with_named};
 
 use crate::prohibiting::prohibit;
@@ -147,7 +147,8 @@ fn lift(graph: &Graph, name: Name) -> Result<Change, Refusal>
 
 // A look-up that took no memory.
 fn found(change: Result<Change, Refusal>) -> Result<Change, ChangeError>
-    ensures { Finds change result }
+    ensures value { Finds change result }
+    ensures free { result ≢ Err ChangeError.Memory }
 {
     match change {
         Ok(change) => Ok(change),
@@ -156,9 +157,10 @@ fn found(change: Result<Change, Refusal>) -> Result<Change, ChangeError>
 }
 
 /// The change that a command names in this graph, or the first name or number that is unknown there,
-/// in the order of the command's fields.
+/// in the order of the command's fields. Only the sets of a prohibition take memory.
 pub(crate) fn resolve(graph: &Graph, command: &Command) -> Result<Change, ChangeError>
-    ensures { Finds (resolve graph.now command.now) result }
+    ensures value { Finds (resolve graph.now command.now) result }
+    ensures free { result ≡ Err ChangeError.Memory → is_prohibit command.now ≡ true }
 {
     match command {
         Command::CreatePc { name } => Ok(create_pc(graph, *name)),

@@ -1,8 +1,8 @@
 //! The ruling on a command.
-ghost use Rattle.std.specs.Prelude.{◌≡◌, IfOk};
+ghost use Rattle.std.specs.Prelude.{◌≡◌, Err, IfOk, true};
 ghost use Rattle.pm_model.specs.Authority.{first_denied, required, ruling};
 ghost use Rattle.pm_model.specs.Formed.{IsLive, IsNamed};
-ghost use Rattle.pm_admin.specs.Resolved.{Finds};
+ghost use Rattle.pm_admin.specs.Resolved.{Finds, is_prohibit};
 ghost use Rattle.pm_admin.specs.Ruled.{IsRuling};
 
 use crate::capabilities::denied_change;
@@ -18,31 +18,27 @@ pub enum Ruling {
     Refused(Refusal),
 }
 
-// The root user has all capabilities that a command may ask for, so no search is made for it.
+// The root user has all capabilities that a command may ask for, so nothing is asked for it.
 #[tactic(auto, using(crate::proofs::FirstDenied::root_none))]
 fn first_denied(
     graph: &Graph,
     user: ElementId,
     process: Option<u32>,
     change: &Change,
-) -> Result<Option<Refusal>, Memory>
+) -> Option<Refusal>
     requires user { IsLive graph.now.elements user }
     requires named { IsNamed graph.now change.now }
-    ensures { IfOk result (λ d. d ≡ first_denied graph.now user process (required graph.now change.now)) }
+    ensures { result ≡ first_denied graph.now user process (required graph.now change.now) }
 {
     if user.number() == ROOT {
-        return Ok(None);
+        return None;
     }
-    let mut reach = match graph.elements().paths() {
-        Ok(reach) => reach,
-        Err(Memory) => return Err(Memory),
-    };
-    Ok(denied_change(graph, &mut reach, user, process, change))
+    denied_change(graph, user, process, change)
 }
 
 /// The change that the command names, where the user and the process have each capability that it asks
-/// for; else the first name or number that is unknown, or the first capability that is denied. A
-/// command of the root user takes no memory but for the sets of a prohibition.
+/// for; else the first name or number that is unknown, or the first capability that is denied. Only
+/// the sets of a prohibition take memory.
 pub fn permit(
     graph: &Graph,
     user: ElementId,
@@ -52,6 +48,7 @@ pub fn permit(
     requires { IsLive graph.now.elements user }
     ensures value { Finds (ruling graph.now user process command.now) result }
     ensures named { IfOk result (IsNamed graph.now) }
+    ensures free { result ≡ Err ChangeError.Memory → is_prohibit command.now ≡ true }
 {
     let change = match resolve(graph, command) {
         Ok(change) => change,
@@ -59,9 +56,8 @@ pub fn permit(
         Err(ChangeError::Memory) => return Err(ChangeError::Memory),
     };
     match first_denied(graph, user, process, &change) {
-        Ok(None) => Ok(change),
-        Ok(Some(why)) => Err(ChangeError::Refused(why)),
-        Err(Memory) => Err(ChangeError::Memory),
+        None => Ok(change),
+        Some(why) => Err(ChangeError::Refused(why)),
     }
 }
 

@@ -150,9 +150,8 @@ fn the_first_unknown_name_is_told(rt: HostRuntime) -> Result<(), Fail> {
 fn refused_on_pm(rt: &impl Abort, graph: &Graph, right: Name) -> Result<u32, &'static str> {
     let user = root(rt, graph);
     let why = match authorise_access(graph, user, 0, right, named(rt, "pm")) {
-        Ok(Ruling::Refused(why)) => why,
-        Ok(Ruling::Allowed) => return Err("allowed"),
-        Err(_) => return Err("no memory"),
+        Ruling::Refused(why) => why,
+        Ruling::Allowed => return Err("allowed"),
     };
     match denied_on_pm(&why, right) {
         Some(class) => Ok(class),

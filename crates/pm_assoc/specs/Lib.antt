@@ -1,4 +1,5 @@
 pub mod Grantees
+pub mod Holders
 pub mod Kept
 pub mod Shown
 pub mod Told

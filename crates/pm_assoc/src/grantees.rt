@@ -1,11 +1,12 @@
 //! The user attributes that have associations, by rising number: what is asked of them, and how one
 //! association comes or goes.
 
-ghost use Rattle.std.specs.Prelude.{◌≡◌, ◌+◌, ◌<◌, ◌≤◌, ◌==◌, [], ◌∷◌, true, length, insert, filter, not, IfOk, IsOk, OnOk, OnErr};
+ghost use Rattle.std.specs.Prelude.{◌≡◌, ◌≢◌, ℕ, ◌+◌, ◌<◌, ◌≤◌, ◌==◌, ◌||◌, [], ◌∷◌, true, length, insert, filter, not, IfOk, IsOk, OnOk, OnErr};
 ghost use Rattle.std.specs.List.{list_any};
 ghost use Rattle.pm_model.specs.Effect.{joins, joined};
-ghost use Rattle.pm_model.specs.Decision.{associations_of};
+ghost use Rattle.pm_model.specs.Decision.{associations_of, is_grantee};
 ghost use Rattle.pm_pages.specs.Paged.{IsOwn};
+ghost use Rattle.pm_assoc.specs.Holders.{holds};
 ghost use Rattle.pm_assoc.specs.Grantees.{AreGrantees, grantee, association, is_on, mentions, edited, with_grant, grants_off, without_grant, without_empty};
 
 use crate::search::locate;
@@ -28,6 +29,29 @@ pub(crate) fn has(grantees: &PageList<Grantee>, ua: ElementId, at: ElementId) ->
     match locate(grantees, ua) {
         Ok(i) => is_given(&grantees.at(i).grants, at),
         Err(_) => false,
+    }
+}
+
+/// Whether the user attribute has associations.
+pub(crate) fn is_holder(grantees: &PageList<Grantee>, ua: ElementId) -> bool
+    requires { AreGrantees 0 grantees.now.items }
+    ensures { result ≡ holds grantees.now.items ua }
+{
+    match locate(grantees, ua) {
+        Ok(_) => true,
+        Err(_) => false,
+    }
+}
+
+/// A user attribute that has associations, with these.
+pub(crate) fn grantee_of(grantees: &PageList<Grantee>, ua: ElementId) -> &Grantee
+    requires ordered { AreGrantees 0 grantees.now.items }
+    requires there { holds grantees.now.items ua ≡ true }
+    ensures { filter (is_grantee ua) grantees.now.items ≡ result.now ∷ [] }
+{
+    match locate(grantees, ua) {
+        Ok(i) => grantees.at(i),
+        Err(_) => unreachable!(),
     }
 }
 
@@ -113,6 +137,7 @@ pub(crate) fn add(
     requires { AreGrantees 0 grantees.old.items }
     ensures ok { OnOk result (associations_of grantees.new.items ≡ joined (association ua grant) (associations_of grantees.old.items)) }
     ensures ordered { OnOk result (AreGrantees 0 grantees.new.items) }
+    ensures holders { OnOk result ((n : ℕ) → holds grantees.new.items n ≡ (n == ua || holds grantees.old.items n)) }
     ensures alone { grantees.new.alone ≡ grantees.old.alone }
     ensures err { OnErr result (grantees.new.items ≡ grantees.old.items) }
 {
@@ -185,6 +210,8 @@ pub(crate) fn remove(
     requires { AreGrantees 0 grantees.old.items }
     ensures gone { OnOk result (associations_of grantees.new.items ≡ filter (λ a. not (joins ua at a)) (associations_of grantees.old.items)) }
     ensures ordered { OnOk result (AreGrantees 0 grantees.new.items) }
+    ensures fewer { OnOk result (holds grantees.new.items ua ≡ true → holds grantees.old.items ua ≡ true) }
+    ensures others { OnOk result ((n : ℕ) → n ≢ ua → holds grantees.new.items n ≡ holds grantees.old.items n) }
     ensures count { IfOk result (λ gone. length (associations_of grantees.new.items) + gone ≡ length (associations_of grantees.old.items)) }
     ensures alone { grantees.new.alone ≡ grantees.old.alone }
     ensures sure { grantees.old.alone ≡ true → IsOk result }

@@ -4,6 +4,7 @@
 mod checks;
 mod errors;
 mod grantees;
+mod holders;
 mod search;
 mod table;
 

@@ -9,7 +9,8 @@ ghost use Rattle.pm_assoc.specs.Grantees.{AreGrantees};
 ghost use Rattle.pm_assoc.specs.Told.{told};
 
 use crate::errors::AssocError;
-use crate::grantees::{add, has, is_named, remove};
+use crate::grantees::{add, grantee_of, has, is_holder, is_named, remove};
+use crate::holders::{self, insert, make_room};
 use pm_model::{ElementId, Grant, Grantee, Grants, Memory, Rights};
 use pm_pages::PageList;
 use std::alloc::Global;
@@ -25,6 +26,7 @@ const ROOM: usize = 64;
 #[derive(Drop)]
 pub struct Assoc {
     grantees: PageList<Grantee>,
+    holders: Vec<u64>,
     count: usize,
 }
 
@@ -48,6 +50,7 @@ impl Assoc {
     {
         Assoc {
             grantees: PageList::new(alloc, ROOM),
+            holders: Vec::new(alloc),
             count: 0,
         }
     }
@@ -75,7 +78,9 @@ impl Assoc {
         ensures err { OnErr result (self.new ≡ self.old) }
     {
         self.check_associate(ua, at)?;
+        make_room(&mut self.holders, ua.number())?;
         add(&mut self.grantees, ua, Grant { rights, at })?;
+        insert(&mut self.holders, ua.number());
         self.count += 1;
         Ok(())
     }
@@ -93,6 +98,9 @@ impl Assoc {
     {
         self.check_dissociate(ua, at)?;
         let gone = remove(&mut self.grantees, ua, at)?;
+        if !is_holder(&self.grantees, ua) {
+            holders::remove(&mut self.holders, ua.number());
+        }
         self.count -= gone;
         Ok(())
     }
@@ -125,8 +133,10 @@ impl Assoc {
         ensures grantees { IfOk result (λ same. same.grantees ≡ self.now.grantees) }
         ensures alone { IfOk result (λ same. same.alone ≡ false) }
     {
+        let alloc = self.grantees.allocator();
         Ok(Assoc {
             grantees: self.grantees.copy()?,
+            holders: holders::copy(alloc, self.holders.as_slice())?,
             count: self.count,
         })
     }
@@ -142,11 +152,15 @@ impl Assoc {
 impl Grants for Assoc {
     ghost grantees = { λ t. t.grantees };
 
-    fn grantee_count(&self) -> usize {
-        self.grantees.len()
+    fn holder_words(&self) -> u32 {
+        self.holders.len() as u32
     }
 
-    fn grantees_from(&self, i: usize) -> &[Grantee] {
-        self.grantees.run(i)
+    fn holders(&self, k: u32) -> u64 {
+        holders::word(self.holders.as_slice(), k)
+    }
+
+    fn grantee(&self, ua: ElementId) -> &Grantee {
+        grantee_of(&self.grantees, ua)
     }
 }

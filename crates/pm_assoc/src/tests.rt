@@ -1,5 +1,8 @@
 //! The table step by step, with answers worked out by hand.
 
+ghost use Rattle.std.specs.Prelude.{◌≡◌, ◌<◌, ◌==◌};
+ghost use Rattle.std.specs.Int.{bit_at};
+
 use super::*;
 use pm_model::{ChangeError, ElementId, Grants, Memory, Refusal, Rights, Table};
 use std::alloc::Global;
@@ -17,16 +20,45 @@ fn table_of(alloc: Global, rows: &[Row]) -> Result<Assoc, AssocError> {
     Ok(table)
 }
 
+fn has_bit(word: u64, i: u32) -> bool
+    requires { i < 64 }
+    ensures { result ≡ (bit_at word i == 1) }
+{
+    (word >> i) & 1 == 1
+}
+
+/// Puts the associations of a word's user attributes behind the others.
+fn push_rows(rows: &mut Vec<Row>, table: &Assoc, k: u32) -> Result<(), Memory>
+    requires { k < 67108864 }
+{
+    let word = table.holders(k);
+    for i in 0..64 {
+        if has_bit(word, i) {
+            let grantee = table.grantee(ElementId(64 * k + i));
+            for grant in grantee.grants.as_slice() {
+                rows.push((grantee.ua.number(), grant.rights.0, grant.at.number()))?;
+            }
+        }
+    }
+    Ok(())
+}
+
 /// The associations in the table's order.
 fn rows_of(alloc: Global, table: &Assoc) -> Result<Vec<Row>, Memory> {
     let mut rows = Vec::new(alloc);
-    for i in 0..table.grantee_count() {
-        let grantee = &table.grantees_from(i)[0];
-        for grant in grantee.grants.as_slice() {
-            rows.push((grantee.ua.number(), grant.rights.0, grant.at.number()))?;
-        }
+    for k in 0..table.holder_words() {
+        push_rows(&mut rows, table, k)?;
     }
     Ok(rows)
+}
+
+/// How many user attributes have associations.
+fn holder_count(table: &Assoc) -> u32 {
+    let mut count: u32 = 0;
+    for k in 0..table.holder_words() {
+        count = count.saturating_add(table.holders(k).count_ones());
+    }
+    count
 }
 
 #[test]
@@ -127,6 +159,37 @@ fn names_both_ends(rt: HostRuntime) -> Result<(), Fail> {
     Ok(())
 }
 
+/// The words in which the rows below have user attributes.
+fn words_of(table: &Assoc) -> [u64; 3] {
+    [table.holders(0), table.holders(1), table.holders(255)]
+}
+
+/// Numbers at both ends of words and of the table; 63 has two associations.
+const ENDS: [Row; 5] = [(63, 1, 1), (0, 1, 1), (16383, 1, 1), (64, 1, 1), (63, 1, 2)];
+
+#[test]
+fn words_tell_who_has_associations(rt: HostRuntime) -> Result<(), Fail> {
+    let table = table_of(rt.alloc(), &ENDS)?;
+    assert_eq!(rt; table.holder_words(), 256);
+    assert_eq!(rt; words_of(&table), [(1 << 63) + 1, 1, 1 << 63]);
+    Ok(())
+}
+
+#[test]
+fn words_tell_who_has_none_left(rt: HostRuntime) -> Result<(), Fail> {
+    let rows = [
+        (64, 1, [(1 << 63) + 1, 0, 1 << 63]),
+        (63, 1, [(1 << 63) + 1, 0, 1 << 63]),
+        (63, 2, [1, 0, 1 << 63]),
+    ];
+    let mut table = table_of(rt.alloc(), &ENDS)?;
+    for (ua, at, want) in rows {
+        table.dissociate(ElementId(ua), ElementId(at))?;
+        assert_eq!(rt; words_of(&table), want);
+    }
+    Ok(())
+}
+
 #[test]
 fn copies_go_apart(rt: HostRuntime) -> Result<(), Fail> {
     let mut table = table_of(rt.alloc(), &[(2, 1, 9), (2, 6, 4)])?;
@@ -160,8 +223,8 @@ fn copies_of_many_attributes_go_apart(rt: HostRuntime) -> Result<(), Fail> {
         copy.dissociate(ElementId(ua), ElementId(5000))?;
     }
     table.associate(ElementId(999), Rights(1), ElementId(6000))?;
-    assert_eq!(rt; table.grantee_count(), 1000);
-    assert_eq!(rt; copy.grantee_count(), 600);
+    assert_eq!(rt; holder_count(&table), 1000);
+    assert_eq!(rt; holder_count(&copy), 600);
     for (ua, in_copy) in [
         (0, true),
         (299, true),

@@ -1,5 +1,8 @@
+pub mod Bits
+pub mod Fakes
 pub mod Firsts
 pub mod Groups
+pub mod Hits
 pub mod Meaning
 pub mod Orders
 pub mod Privileges

@@ -40,7 +40,7 @@ one_test x (suc (suc y)) h k e = absurd (omega arith)
 has-or : (a b r : ℕ) → has_right (bit_or a b) r ≡ (has_right a r || has_right b r)
 has-or a b r = rw bit_at_or (either (bit_at a r) (bit_at b r) (bit_at-lt a r) (bit_at-lt b r))
 
-has-and : (a b r : ℕ) → has_right (bit_and a b) r ≡ (has_right a r && has_right b r)
+pub has-and : (a b r : ℕ) → has_right (bit_and a b) r ≡ (has_right a r && has_right b r)
 has-and a b r = rw bit_at_and (both (bit_at a r) (bit_at b r) (bit_at-lt a r) (bit_at-lt b r))
 
 has-not : (a r : ℕ) → a < 2 ^ 64 → r < 64 → has_right (bit_not w64 a) r ≡ not (has_right a r)
@@ -124,6 +124,19 @@ pub joining-more : (so_far more : ℕ) (here later left whole : ℕ → Bool) �
 joining-more so_far more here later left whole joining is split = λ r h.
     or_step (has_right so_far r) (here r) (later r) (left r) (whole r) _ (joining r h) (split r)
     (has-or so_far more r ∙ ap (λ b. has_right so_far r || b) (is r h))
+
+pub joining-from : (left whole : ℕ → Bool) → ((r : ℕ) → left r ≡ whole r) → IsJoining 0 left whole
+joining-from left whole same = λ r h. rw (has-none r) (same r)
+
+pub joining-begun : (whole : ℕ → Bool) → IsJoining 0 whole whole
+joining-begun whole = joining-from whole whole (λ r. refl)
+
+-- where nothing is left
+pub joining-done : (so_far : ℕ) (left whole : ℕ → Bool) → IsJoining so_far left whole → ((r : ℕ) → false ≡ left r) → IsSetOf whole so_far
+joining-done so_far left whole joining none = λ r h. sym (last (has_right so_far r)) ∙ rw (← none r) at (joining r h) where
+  last : (b : Bool) → (b || false) ≡ b
+  last true = refl
+  last false = refl
 
 -- the set so far, and the test of what is left, is the whole
 abbrev pub IsMeeting : ℕ → (ℕ → Bool) → (ℕ → Bool) → Type 0

@@ -1,4 +1,5 @@
 pub mod Gives
+pub mod Hits
 pub mod Live
 pub mod Meaning
 pub mod Sets

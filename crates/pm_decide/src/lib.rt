@@ -3,10 +3,10 @@
 #![tactic(auto)]
 
 ghost use Rattle.std.specs.Prelude.{◌≡◌, ◌<◌};
-ghost use Rattle.std.specs.List.{list_any};
-ghost use Rattle.pm_model.specs.Decision.{is_met, lacking, privilege, of_grantee, associations_of};
-ghost use Rattle.pm_decide.specs.Live.{IsLive, IsAsked, IsAskedIn, GranteeLive, BarsLive};
-ghost use Rattle.pm_decide.specs.Gives.{gives};
+ghost use Rattle.pm_model.specs.Decision.{is_met, lacking, privilege, associations_of};
+ghost use Rattle.pm_decide.specs.Live.{IsLive, EndsLive, IsAsked, IsAskedIn, GranteeLive, BarsLive};
+ghost use Rattle.pm_decide.specs.Gives.{gives, some_gives};
+ghost use Rattle.pm_decide.specs.Hits.{AreHolders, in_word, some_of};
 ghost use Rattle.pm_decide.specs.Verdict.{decision};
 
 mod laws;
@@ -15,12 +15,14 @@ mod rights;
 #[cfg(test)]
 mod tests;
 mod verdict;
+mod words;
 
 pub use laws::decision_said;
 use pm_model::{Bars, ClassList, ElementId, Grant, Grantee, Grants, Reach};
 pub use prohibitions::first_applying;
 pub use rights::rights_of;
 pub use verdict::Verdict;
+use words::{holders_above, lowest, without_bit};
 
 /// Whether the grant gives the right on the element in the class.
 fn gives<R: Reach>(
@@ -52,7 +54,7 @@ fn some_gives<R: Reach>(
     requires element { IsLive (R.relation reach.old) element }
     requires class { IsLive (R.relation reach.old) class }
     requires grantee { GranteeLive (R.relation reach.old) grantee.now }
-    ensures answer { result ≡ list_any (gives (R.relation reach.old).below right element class) grantee.now.grants }
+    ensures answer { result ≡ some_gives (R.relation reach.old).below right element class grantee.now }
     ensures same { R.relation reach.new ≡ R.relation reach.old }
 {
     for grant in grantee.grants.as_slice() {
@@ -63,51 +65,40 @@ fn some_gives<R: Reach>(
     false
 }
 
-/// Whether some association of the user attribute gives the user the right. One question passes by
-/// all of them where the user isn't in it.
-#[tactic(auto, using(crate::proofs::Groups::met_by_group))]
-fn is_met_by<R: Reach>(
+/// Whether a grant of some user attribute whose bit is set gives the right on the element in the class.
+/// Bit i of the word is the number 64 k + i.
+fn is_given_in<R: Reach, G: Grants>(
     reach: &mut R,
-    grantee: &Grantee,
-    user: ElementId,
+    grants: &G,
+    k: u32,
+    word: u64,
     right: u8,
     element: ElementId,
     class: ElementId,
 ) -> bool
     requires right { right < 64 }
-    requires user { IsLive (R.relation reach.old) user }
     requires element { IsLive (R.relation reach.old) element }
     requires class { IsLive (R.relation reach.old) class }
-    requires grantee { GranteeLive (R.relation reach.old) grantee.now }
-    ensures answer { result ≡ is_met (R.relation reach.old).below (of_grantee grantee.now) user right element class }
+    requires grants { EndsLive (R.relation reach.old) (G.grantees grants.now) }
+    requires place { k < 67108864 }
+    requires word { AreHolders (G.grantees grants.now) k word }
+    ensures answer { result ≡ some_of (in_word k word) (some_gives (R.relation reach.old).below right element class) (G.grantees grants.now) }
     ensures same { R.relation reach.new ≡ R.relation reach.old }
 {
-    reach.contains(user, grantee.ua) && some_gives(reach, grantee, right, element, class)
-}
-
-/// Whether some association of some of these user attributes gives the user the right.
-fn is_met_in<R: Reach>(
-    reach: &mut R,
-    grantees: &[Grantee],
-    user: ElementId,
-    right: u8,
-    element: ElementId,
-    class: ElementId,
-) -> bool
-    requires right { right < 64 }
-    requires asked { IsAskedIn (R.relation reach.old) grantees.now user element class }
-    ensures answer { result ≡ is_met (R.relation reach.old).below (associations_of grantees.now) user right element class }
-    ensures same { R.relation reach.new ≡ R.relation reach.old }
-{
-    for grantee in grantees {
-        if is_met_by(reach, grantee, user, right, element, class) {
+    let mut left = word;
+    while left > 0 {
+        let i = lowest(left);
+        let grantee = grants.grantee(ElementId(64 * k + i));
+        if some_gives(reach, grantee, right, element, class) {
             return true;
         }
+        left = without_bit(left, i);
     }
     false
 }
 
-/// Whether some association gives the user the right on the element in the class.
+/// Whether some association gives the user the right on the element in the class. Those alone are
+/// looked at whose user attribute contains the user.
 fn is_met<R: Reach, G: Grants>(
     reach: &mut R,
     grants: &G,
@@ -121,14 +112,11 @@ fn is_met<R: Reach, G: Grants>(
     ensures answer { result ≡ is_met (R.relation reach.old).below (associations_of (G.grantees grants.now)) user right element class }
     ensures same { R.relation reach.new ≡ R.relation reach.old }
 {
-    let count = grants.grantee_count();
-    let mut start = 0;
-    while start < count {
-        let run = grants.grantees_from(start);
-        if is_met_in(reach, run, user, right, element, class) {
+    for k in 0..grants.holder_words() {
+        let word = holders_above(reach, grants, user, k);
+        if is_given_in(reach, grants, k, word, right, element, class) {
             return true;
         }
-        start += run.len();
     }
     false
 }
@@ -162,9 +150,10 @@ fn lacking<R: Reach, G: Grants>(
 /// is in the class. The right is a bit; `classes` are all policy classes. Of an element in none of them
 /// the answer is yes.
 ///
-/// Takes no memory. Each class costs one question of containment. In each that contains the element,
-/// each user attribute with associations costs one more and, where it contains the user, each of its
-/// grants of the right at most two. It ends at the first class in which no association gives it.
+/// Takes no memory. Each class costs one question of containment. Each that contains the element costs
+/// one more for each word of 64 numbers in which there are user attributes with associations and, for
+/// each of these that contains the user, at most two for each of its grants of the right. It ends at the
+/// first class in which no association gives it.
 pub fn privilege<R: Reach, G: Grants>(
     reach: &mut R,
     grants: &G,

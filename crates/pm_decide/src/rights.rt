@@ -2,13 +2,15 @@
 
 ghost use Rattle.std.specs.Prelude.{◌≡◌, ◌<◌, ◌^◌, not, ◌&&◌, ◌||◌, None, bit_and};
 ghost use Rattle.std.specs.List.{list_any};
-ghost use Rattle.pm_model.specs.Decision.{is_met, privilege, forbids, of_grantee, associations_of, rights_on};
+ghost use Rattle.pm_model.specs.Decision.{is_met, privilege, forbids, associations_of, rights_on};
 ghost use Rattle.pm_model.specs.RightSet.{has_right};
-ghost use Rattle.pm_decide.specs.Gives.{gives};
-ghost use Rattle.pm_decide.specs.Live.{IsLive, IsAsked, IsAskedIn, GranteeLive, NamesLive, BarsLive};
+ghost use Rattle.pm_decide.specs.Gives.{gives, some_gives};
+ghost use Rattle.pm_decide.specs.Hits.{AreHolders, in_word, some_of};
+ghost use Rattle.pm_decide.specs.Live.{IsLive, EndsLive, IsAsked, IsAskedIn, GranteeLive, NamesLive, BarsLive};
 ghost use Rattle.pm_decide.specs.Sets.{IsSetOf};
 
 use crate::prohibitions::{applies, in_range};
+use crate::words::{holders_above, lowest, without_bit};
 use pm_model::{Bars, ClassList, ElementId, Grant, Grantee, Grants, Prohibition, Reach, Rights};
 
 const NO_RIGHTS: Rights = Rights(0);
@@ -60,7 +62,7 @@ fn rights_of_grants<R: Reach>(
     requires element { IsLive (R.relation reach.old) element }
     requires class { IsLive (R.relation reach.old) class }
     requires grantee { GranteeLive (R.relation reach.old) grantee.now }
-    ensures answer { IsSetOf (λ r. list_any (gives (R.relation reach.old).below r element class) grantee.now.grants) result }
+    ensures answer { IsSetOf (λ r. some_gives (R.relation reach.old).below r element class grantee.now) result }
     ensures same { R.relation reach.new ≡ R.relation reach.old }
 {
     let mut rights = NO_RIGHTS;
@@ -71,49 +73,38 @@ fn rights_of_grants<R: Reach>(
     rights
 }
 
-/// The rights that the associations of a user attribute give the user. One question passes by all of
-/// them where the user isn't in it.
-fn rights_by<R: Reach>(
+/// The rights on the element in the class that the grants of those user attributes give whose bit is
+/// set. Bit i of the word is the number 64 k + i.
+fn rights_given_in<R: Reach, G: Grants>(
     reach: &mut R,
-    grantee: &Grantee,
-    user: ElementId,
+    grants: &G,
+    k: u32,
+    word: u64,
     element: ElementId,
     class: ElementId,
 ) -> Rights
-    requires user { IsLive (R.relation reach.old) user }
     requires element { IsLive (R.relation reach.old) element }
     requires class { IsLive (R.relation reach.old) class }
-    requires grantee { GranteeLive (R.relation reach.old) grantee.now }
-    ensures answer { IsSetOf (λ r. is_met (R.relation reach.old).below (of_grantee grantee.now) user r element class) result }
-    ensures same { R.relation reach.new ≡ R.relation reach.old }
-{
-    if !reach.contains(user, grantee.ua) {
-        return NO_RIGHTS;
-    }
-    rights_of_grants(reach, grantee, element, class)
-}
-
-/// The rights that the associations of these user attributes give the user.
-fn rights_met_in<R: Reach>(
-    reach: &mut R,
-    grantees: &[Grantee],
-    user: ElementId,
-    element: ElementId,
-    class: ElementId,
-) -> Rights
-    requires asked { IsAskedIn (R.relation reach.old) grantees.now user element class }
-    ensures answer { IsSetOf (λ r. is_met (R.relation reach.old).below (associations_of grantees.now) user r element class) result }
+    requires grants { EndsLive (R.relation reach.old) (G.grantees grants.now) }
+    requires place { k < 67108864 }
+    requires word { AreHolders (G.grantees grants.now) k word }
+    ensures answer { IsSetOf (λ r. some_of (in_word k word) (some_gives (R.relation reach.old).below r element class) (G.grantees grants.now)) result }
     ensures same { R.relation reach.new ≡ R.relation reach.old }
 {
     let mut rights = NO_RIGHTS;
-    for grantee in grantees {
-        let more = rights_by(reach, grantee, user, element, class);
+    let mut left = word;
+    while left > 0 {
+        let i = lowest(left);
+        let grantee = grants.grantee(ElementId(64 * k + i));
+        let more = rights_of_grants(reach, grantee, element, class);
         rights = rights.union(more);
+        left = without_bit(left, i);
     }
     rights
 }
 
-/// The rights that the associations give the user on the element in the class.
+/// The rights that the associations give the user on the element in the class. Those alone are looked
+/// at whose user attribute contains the user.
 fn rights_met<R: Reach, G: Grants>(
     reach: &mut R,
     grants: &G,
@@ -125,14 +116,11 @@ fn rights_met<R: Reach, G: Grants>(
     ensures answer { IsSetOf (λ r. is_met (R.relation reach.old).below (associations_of (G.grantees grants.now)) user r element class) result }
     ensures same { R.relation reach.new ≡ R.relation reach.old }
 {
-    let count = grants.grantee_count();
     let mut rights = NO_RIGHTS;
-    let mut start = 0;
-    while start < count {
-        let run = grants.grantees_from(start);
-        let more = rights_met_in(reach, run, user, element, class);
+    for k in 0..grants.holder_words() {
+        let word = holders_above(reach, grants, user, k);
+        let more = rights_given_in(reach, grants, k, word, element, class);
         rights = rights.union(more);
-        start += run.len();
     }
     rights
 }
@@ -249,8 +237,8 @@ fn rights_denied<R: Reach, B: Bars>(
 /// don't count. `classes` are all policy classes.
 ///
 /// Takes no memory. Each question of containment is asked for all rights at once: at most one for each
-/// class and, in each class that contains the element, for each user attribute with associations one,
-/// and at most two for each of its grants where it contains the user; then, for each prohibition on the
+/// class and, in each class that contains the element, one for each word of 64 numbers in which there
+/// are user attributes with associations, and at most two for each grant of those that contain the user; then, for each prohibition on the
 /// user or on a user attribute, those that [`first_applying`](crate::first_applying) asks of one that
 /// has the right.
 pub fn rights_of<R: Reach, G: Grants, B: Bars>(

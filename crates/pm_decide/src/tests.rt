@@ -1,7 +1,11 @@
 //! Decisions over small policies, with answers worked out by hand.
 
-ghost use Rattle.std.specs.Prelude.{◌≡◌, ◌<◌, ◌≤◌, length, take, drop};
+ghost use Rattle.std.specs.Prelude.{◌≡◌, ℕ, ◌<◌, ◌≤◌, ◌+◌, ◌*◌, ◌==◌, [], ◌∷◌, true, length, take, drop, filter, All};
+ghost use Rattle.std.specs.Int.{bit_at};
+ghost use Rattle.std.specs.List.{list_any};
 ghost use Rattle.pm_model.specs.Containment.{contained};
+ghost use Rattle.pm_model.specs.Decision.{is_grantee};
+ghost use Rattle.pm_model.specs.declared.rights.Grantee.{Grantee};
 
 use crate::{Verdict, decide, privilege, rights_of};
 use Told::{Granted, NoClass, Prohibited};
@@ -47,7 +51,7 @@ struct Graph {
     told: &'static [(u32, Option<u32>, u8, u32, Told)],
 }
 
-const GRAPHS: [Graph; 8] = [
+const GRAPHS: [Graph; 9] = [
     Graph {
         shows: "one class",
         size: 5,
@@ -209,6 +213,29 @@ const GRAPHS: [Graph; 8] = [
             (5, Some(2), 0, 7, Granted),
         ],
     },
+    Graph {
+        shows: "user attributes at both ends of words",
+        size: 7,
+        classes: &[5],
+        assigned: &[(1, 0), (2, 63), (3, 64), (4, 16383), (6, 5)],
+        grants: &[
+            (0, &[(0b0001, 5)]),
+            (63, &[(0b0010, 5)]),
+            (64, &[(0b0100, 5)]),
+            (16383, &[(0b1000, 5)]),
+        ],
+        bars: &[],
+        told: &[
+            (1, None, 0, 6, Granted),
+            (1, None, 1, 6, NoClass(5)),
+            (2, None, 1, 6, Granted),
+            (2, None, 0, 6, NoClass(5)),
+            (3, None, 2, 6, Granted),
+            (3, None, 1, 6, NoClass(5)),
+            (4, None, 3, 6, Granted),
+            (4, None, 2, 6, NoClass(5)),
+        ],
+    },
 ];
 
 // The same relation as `leads`, in the form that contracts name.
@@ -225,6 +252,23 @@ fn is_contained(pairs: &[(u32, u32)], x: u32, y: u32) -> bool
     }
 }
 
+// What x is contained in, of the numbers from 64 k on.
+#[tactic(auto, using(pm_model::proofs::Bits::bit_or_has), unfolding(pm_model::specs::Containment::contained))]
+fn containers_in(pairs: &[(u32, u32)], x: u32, k: u32) -> u64
+    ensures { (i : ℕ) → i < 64 → (bit_at result i == 1) ≡ contained pairs.now x (64 * k + i) }
+{
+    match pairs {
+        [] => ElementId(x).bit_in(k),
+        [pair, rest @ ..] => {
+            let word = containers_in(rest, x, k);
+            if is_contained(rest, x, pair.0) {
+                return word | containers_in(rest, pair.1, k);
+            }
+            word
+        }
+    }
+}
+
 #[derive(Drop)]
 struct Pairs(&'static [(u32, u32)]);
 
@@ -236,6 +280,10 @@ impl Reach for Pairs {
 
     fn contains(&mut self, x: ElementId, y: ElementId) -> bool {
         is_contained(self.0, x.number(), y.number())
+    }
+
+    fn above(&mut self, x: ElementId, k: u32) -> u64 {
+        containers_in(self.0, x.number(), k)
     }
 }
 
@@ -249,18 +297,76 @@ fn one_or_two_from<T>(items: &[T], i: usize) -> &[T]
     if rest.len() < 2 { rest } else { &rest[..2] }
 }
 
+// User attributes with numbers below 16,384, each once.
 #[derive(Drop)]
-struct Associations(ItemList<Grantee>);
+struct Associations {
+    list: ItemList<Grantee>,
+    ghost few: { All (λ (g : Grantee). g.ua < 16384) list },
+    ghost once: { (ua : ℕ) → length (filter (is_grantee ua) list) ≤ 1 },
+}
+
+fn is_among(grantees: &[Grantee], ua: ElementId) -> bool
+    ensures { result ≡ list_any (is_grantee ua) grantees.now }
+{
+    grantees.iter().any(|grantee| grantee.ua == ua)
+}
+
+// The numbers of the user attributes, of those from 64 k on.
+#[tactic(auto, using(pm_model::proofs::Bits::bit_or_has))]
+fn numbers_in(grantees: &[Grantee], k: u32) -> u64
+    ensures { (i : ℕ) → i < 64 → (bit_at result i == 1) ≡ list_any (is_grantee (64 * k + i)) grantees.now }
+{
+    match grantees {
+        [] => 0,
+        [grantee, rest @ ..] => grantee.ua.bit_in(k) | numbers_in(rest, k),
+    }
+}
+
+fn the_grantee(grantees: &[Grantee], ua: ElementId) -> &Grantee
+    requires there { list_any (is_grantee ua) grantees.now ≡ true }
+    requires once { length (filter (is_grantee ua) grantees.now) ≤ 1 }
+    ensures { filter (is_grantee ua) grantees.now ≡ result.now ∷ [] }
+{
+    match grantees {
+        [] => unreachable!(),
+        [grantee, rest @ ..] => {
+            if grantee.ua == ua {
+                return grantee;
+            }
+            the_grantee(rest, ua)
+        }
+    }
+}
 
 impl Grants for Associations {
-    ghost grantees = { λ s. s.0 };
+    ghost grantees = { λ s. s.list };
 
-    fn grantee_count(&self) -> usize {
-        self.0.len()
+    fn holder_words(&self) -> u32 {
+        256
     }
 
-    fn grantees_from(&self, i: usize) -> &[Grantee] {
-        one_or_two_from(self.0.as_slice(), i)
+    fn holders(&self, k: u32) -> u64 {
+        numbers_in(self.list.as_slice(), k)
+    }
+
+    fn grantee(&self, ua: ElementId) -> &Grantee {
+        the_grantee(self.list.as_slice(), ua)
+    }
+}
+
+impl Associations {
+    fn new(alloc: Global) -> Self {
+        Associations {
+            list: ItemList::new(alloc),
+        }
+    }
+
+    fn add(&mut self, grantee: Grantee) -> Result<(), Fail> {
+        if grantee.ua.number() >= 16384 || is_among(self.list.as_slice(), grantee.ua) {
+            return Err("another user attribute".into());
+        }
+        self.list.push(grantee)?;
+        Ok(())
     }
 }
 
@@ -294,8 +400,8 @@ struct Lists {
     classes: ClassList,
 }
 
-fn groups(alloc: Global, graph: &Graph) -> Result<Associations, Memory> {
-    let mut groups = ItemList::new(alloc);
+fn groups(alloc: Global, graph: &Graph) -> Result<Associations, Fail> {
+    let mut groups = Associations::new(alloc);
     for (ua, pairs) in graph.grants {
         let mut grants = ItemList::new(alloc);
         for (rights, at) in *pairs {
@@ -304,9 +410,9 @@ fn groups(alloc: Global, graph: &Graph) -> Result<Associations, Memory> {
             grants.push(Grant { rights, at })?;
         }
         let ua = ElementId(*ua);
-        groups.push(Grantee { ua, grants })?;
+        groups.add(Grantee { ua, grants })?;
     }
-    Ok(Associations(groups))
+    Ok(groups)
 }
 
 fn places(alloc: Global, numbers: &[u32]) -> Result<PlaceList, Memory> {

@@ -168,10 +168,15 @@ struct InZero;
 impl Reach for InZero {
     ghost use Rattle.std.specs.Prelude.{true, ◌==◌, ◌||◌};
 
-    ghost relation = { λ s. record { live = λ n. true; below = λ x y. x == y || y == 0 } };
+    ghost relation = { λ s. record { live = λ n. true; below = λ x y. x == y || 0 == y } };
 
     fn contains(&mut self, x: ElementId, y: ElementId) -> bool {
-        x == y || y.number() == 0
+        x == y || 0 == y.number()
+    }
+
+    #[tactic(auto, using(pm_model::proofs::Bits::bit_or_has))]
+    fn above(&mut self, x: ElementId, k: u32) -> u64 {
+        x.bit_in(k) | ElementId(0).bit_in(k)
     }
 }
 

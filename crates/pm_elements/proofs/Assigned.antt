@@ -6,7 +6,7 @@ use Rattle.std.proofs.lemmas.List.Elements.{filter-append}
 use Rattle.pm_model.specs.Containment.{containers}
 use Rattle.pm_model.specs.Effect.{is_pair, is_from, with_assignment}
 use Rattle.pm_elements.specs.declared.slots.Slot.{Slot}
-use Rattle.pm_elements.specs.Slots.{slot_at, parents_of, each_from, pairs_from, pairs_of, with_slot}
+use Rattle.pm_elements.specs.Slots.{slot_at, parents_of, each_from, pairs_from, pairs_of}
 use Rattle.pm_elements.proofs.Pairs.{containers-append}
 
 -- ---- what one element is assigned to
@@ -80,15 +80,13 @@ same_from n (suc k) o (p ∷ slots) same = ap (λ (l : List (ℕ × ℕ)). each_
 pub pairs-same : (k : ℕ) (o : Option Slot) (slots : List (Option Slot)) → parents_of o ≡ parents_of (slot_at slots k) → pairs_of (set slots k o) ≡ pairs_of slots
 pairs-same k o slots same = same_from 0 k o slots same
 
-new_from : (n k : ℕ) (s : Slot) (slots : List (Option Slot)) → k ≤ length slots → s.parents ≡ [] → slot_at slots k ≡ None → pairs_from n (with_slot k s slots) ≡ pairs_from n slots
-new_from n zero s [] h none free = rw none refl
-new_from n (suc k) s [] h none free = absurd (omega arith)
-new_from n zero s (o ∷ slots) h none free = rw (none, ap parents_of free) refl
-new_from n (suc k) s (o ∷ slots) h none free = ap (λ (l : List (ℕ × ℕ)). each_from n (parents_of o) ++ l) (new_from (n + 1) k s slots (omega arith) none free)
+pushed_from : (n : ℕ) (slots : List (Option Slot)) → pairs_from n (slots ++ None ∷ []) ≡ pairs_from n slots
+pushed_from n [] = refl
+pushed_from n (o ∷ slots) = ap (λ (l : List (ℕ × ℕ)). each_from n (parents_of o) ++ l) (pushed_from (n + 1) slots)
 
--- a new slot without containers
-pub pairs-new : (k : ℕ) (s : Slot) (slots : List (Option Slot)) → k ≤ length slots → s.parents ≡ [] → slot_at slots k ≡ None → pairs_of (with_slot k s slots) ≡ pairs_of slots
-pairs-new k s slots h none free = new_from 0 k s slots h none free
+-- a free slot more
+pub pairs-pushed : (slots : List (Option Slot)) → pairs_of (slots ++ None ∷ []) ≡ pairs_of slots
+pairs-pushed slots = pushed_from 0 slots
 
 -- ---- less: a test that the assignments of all numbers but m pass
 

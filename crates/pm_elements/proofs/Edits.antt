@@ -1,5 +1,5 @@
 -- What a change of one slot leaves.
-use Rattle.std.proofs.Common.{◌≡◌, ◌≢◌, ℕ, zero, suc, ◌+◌, ◌-◌, ◌<◌, true, cond, eqb, List, [], ◌∷◌, length, length-set, Option, Some, None, is_some, option_map, set, refl, ap, ◌∙◌, arith, inl, inr}
+use Rattle.std.proofs.Common.{◌≡◌, ◌≢◌, ℕ, zero, suc, ◌+◌, ◌-◌, ◌<◌, true, cond, eqb, List, [], ◌∷◌, length, length-set, Option, Some, None, is_some, option_map, set, refl, sym, ap, ◌∙◌, arith, inl, inr}
 use Rattle.std.proofs.lemmas.Bool.{cases_eq, eq-eqb, ne_eqb, false≢true}
 use Rattle.pm_model.specs.declared.elements.Element.{Element}
 use Rattle.pm_elements.specs.declared.slots.Slot.{Slot}
@@ -16,6 +16,14 @@ slot_at-set_other (p ∷ slots) zero zero o h = absurd (h refl)
 slot_at-set_other (p ∷ slots) zero (suc k) o h = refl
 slot_at-set_other (p ∷ slots) (suc n) zero o h = refl
 slot_at-set_other (p ∷ slots) (suc n) (suc k) o h = slot_at-set_other slots n k o (λ e. h (ap suc e))
+
+-- what is taken where a slot is free was taken before
+pub still_taken : (slots : List (Option Slot)) (n k : ℕ) → is_some (slot_at (set slots n None) k) ≡ true → is_some (slot_at slots k) ≡ true
+still_taken [] n k h = h
+still_taken (o ∷ slots) zero zero h = absurd (false≢true h)
+still_taken (o ∷ slots) zero (suc k) h = h
+still_taken (o ∷ slots) (suc n) zero h = h
+still_taken (o ∷ slots) (suc n) (suc k) h = still_taken slots n k h
 
 pub slot_at-edited : (f : Slot → Slot) (n : ℕ) (slots : List (Option Slot)) → slot_at (edited f n slots) n ≡ option_map f (slot_at slots n)
 slot_at-edited f n [] = refl
@@ -43,6 +51,18 @@ shown-edited f keeps n (suc k) (Some s ∷ slots) = ap (λ (es : List Element). 
 
 pub edited_taken : (f : Slot → Slot) (n : ℕ) (slots : List (Option Slot)) (s : Slot) → slot_at slots n ≡ Some s → edited f n slots ≡ set slots n (Some (f s))
 edited_taken f n slots s is = ap (λ o. set slots n (option_map f o)) is
+
+-- a change of a slot just written
+pub edited-set : (f : Slot → Slot) (n : ℕ) (s : Slot) (slots : List (Option Slot)) → edited f n (set slots n (Some s)) ≡ set slots n (Some (f s))
+edited-set f n s [] = refl
+edited-set f zero s (o ∷ slots) = refl
+edited-set f (suc n) s (o ∷ slots) = ap (λ (l : List (Option Slot)). o ∷ l) (edited-set f n s slots)
+
+-- a slot written back
+pub set_back : (slots : List (Option Slot)) (n : ℕ) (s : Slot) → slot_at slots n ≡ Some s → set slots n (Some s) ≡ slots
+set_back [] n s is = refl
+set_back (o ∷ slots) zero s is = ap (λ (p : Option Slot). p ∷ slots) (sym is)
+set_back (o ∷ slots) (suc n) s is = ap (λ (l : List (Option Slot)). o ∷ l) (set_back slots n s is)
 
 pub some_edited : (f : Slot → Slot) (o : Option Slot) → is_some (option_map f o) ≡ is_some o
 some_edited f None = refl

@@ -8,7 +8,8 @@ use Rattle.pm_model.specs.State.{element_at, is_named, is_numbered, number_named
 use Rattle.pm_model.specs.Formed.{Each}
 use Rattle.pm_model.specs.declared.elements.Element.{Element}
 use Rattle.pm_model.specs.Effect.{placed}
-use Rattle.pm_elements.specs.Kept.{Named, Renames}
+use Rattle.pm_names.specs.Named.{Renames}
+use Rattle.pm_elements.specs.Kept.{Named}
 use Rattle.pm_elements.proofs.Lists.{is_some-map, Each-placed, Each-filter, element_at-placed, element_at-filtered}
 
 pub same_bytes : (xs ys : List ℕ) → bytes_eq xs ys ≡ true → xs ≡ ys

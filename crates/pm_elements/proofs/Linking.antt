@@ -125,6 +125,6 @@ Kept-unlinked slots names live links x y h there = record {
   few_links = omega (arith, h.few_links);
 }
 
-pub same_table : {elements elements' : List Element} {assigned assigned' : List (ℕ × ℕ)} → elements ≡ elements' → assigned ≡ assigned'
-    → ◌≡◌ {A = Listed} (record { elements = elements; assigned = assigned }) (record { elements = elements'; assigned = assigned' })
-same_table e f = rw (e, f) refl
+pub same_table : {elements elements' : List Element} {assigned assigned' : List (ℕ × ℕ)} {alone alone' : Bool} → elements ≡ elements' → assigned ≡ assigned' → alone ≡ alone'
+    → ◌≡◌ {A = Listed} (record { elements = elements; assigned = assigned; alone = alone }) (record { elements = elements'; assigned = assigned'; alone = alone' })
+same_table e f g = rw (e, f, g) refl

@@ -7,7 +7,8 @@ use Rattle.pm_model.specs.State.{is_numbered}
 use Rattle.pm_model.specs.Effect.{is_pair, is_from, is_to, has_child}
 use Rattle.pm_model.specs.declared.elements.Element.{Element}
 use Rattle.pm_elements.specs.declared.slots.Slot.{Slot}
-use Rattle.pm_elements.specs.Kept.{Held, Kept, Renames}
+use Rattle.pm_names.specs.Named.{Renames}
+use Rattle.pm_elements.specs.Kept.{Held, Kept}
 use Rattle.pm_elements.specs.Slots.{shown_from, shown, pairs_of, slot_at, element_of, edited, without_child, parents_of, children_of, released, removed}
 use Rattle.pm_elements.proofs.Assigned.{containers_held, pairs-same, pairs-freed}
 use Rattle.pm_elements.proofs.Edits.{slot_at-set_same, slot_at-set_other, length-edited, shown-edited, parents_without_child, child_less}

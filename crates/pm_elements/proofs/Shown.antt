@@ -1,5 +1,5 @@
 -- The elements that the slots show.
-use Rattle.std.proofs.Common.{◌≡◌, ◌≢◌, ℕ, zero, suc, ◌+◌, ◌<◌, true, List, [], ◌∷◌, length, Option, Some, None, is_some, option_map, refl, sym, ap, ◌∙◌, arith, get_or}
+use Rattle.std.proofs.Common.{◌≡◌, ◌≢◌, ℕ, zero, suc, ◌+◌, ◌<◌, true, List, [], ◌∷◌, length, Option, Some, None, is_some, option_map, refl, sym, ap, ◌∙◌, arith, slice_get, unwrap_or}
 use Rattle.std.proofs.lemmas.Bool.{ne_eqb, eq-eqb, false≢true}
 use Rattle.pm_model.specs.State.{element, element_at, name_numbered, name_or_none}
 use Rattle.pm_model.specs.Effect.{both, may_assign, may_create}
@@ -45,6 +45,9 @@ slot_at-below (o ∷ slots) (suc k) h = omega (arith, slot_at-below slots k h)
 pub slot_taken : (slots : List (Option Slot)) (k : ℕ) → IsLive (shown slots) k → is_some (slot_at slots k) ≡ true
 slot_taken slots k h = sym (live_shown k slots) ∙ h
 
+pub taken_shown : (slots : List (Option Slot)) (k : ℕ) → is_some (slot_at slots k) ≡ true → IsLive (shown slots) k
+taken_shown slots k h = live_shown k slots ∙ h
+
 pub slot_below : (slots : List (Option Slot)) (k : ℕ) → IsLive (shown slots) k → k < length slots
 slot_below slots k h = slot_at-below slots k (slot_taken slots k h)
 
@@ -54,11 +57,9 @@ kind_shown k slots s is = ap (option_map (λ (e : Element). e.kind)) (element_at
 pub name_shown : (k : ℕ) (slots : List (Option Slot)) (s : Slot) → slot_at slots k ≡ Some s → name_numbered (shown slots) k ≡ s.name
 name_shown k slots s is = ap name_or_none (element_at-shown k slots ∙ ap (option_map (element_of k)) is)
 
--- the slot of a number within the slots, as an index reads it
-pub slot_at-read : (slots : List (Option Slot)) (k : ℕ) (read : Option Slot) → k < length slots → read ≡ get_or slots k read → slot_at slots k ≡ read
-slot_at-read [] k read below is = absurd (omega arith)
-slot_at-read (o ∷ slots) zero read below is = sym is
-slot_at-read (o ∷ slots) (suc k) read below is = slot_at-read slots k read (omega arith) is
+-- the slot of a number, as it is read
+pub slot_at-read : (slots : List (Option Slot)) (k : ℕ) (read : Option Slot) → slice_get slots k ≡ Some read → slot_at slots k ≡ read
+slot_at-read slots k read is = ap (λ o. unwrap_or o None) is
 
 pub live_below : (slots : List (Option Slot)) (k : ℕ) → is_some (element_at (shown slots) k) ≡ true → k < length slots
 live_below slots k h = slot_below slots k h

@@ -1,5 +1,5 @@
 -- How the table is kept: its slots, and the numbers by name.
-use Rattle.std.specs.Prelude.{◌≡◌, ◌≤◌, ℕ, List, length, count_by, Option, Some, option_map, bytes_eq, if◌then◌else◌}
+use Rattle.std.specs.Prelude.{◌≡◌, ◌≤◌, ◌&&◌, ℕ, List, length, count_by, Option, Some, option_map, bytes_eq}
 use Rattle.std.specs.Map.{lookup}
 use Rattle.pm_model.specs.State.{element_at}
 use Rattle.pm_model.specs.Formed.{Each}
@@ -11,7 +11,7 @@ use Rattle.pm_elements.specs.Listed.{Listed}
 use Rattle.pm_elements.specs.Slots.{shown, pairs_of, slot_at, children_of}
 
 abbrev pub listed : Inside → Listed
-listed t = record { elements = shown t.slots.items; assigned = pairs_of t.slots.items }
+listed t = record { elements = shown t.slots.items; assigned = pairs_of t.slots.items; alone = t.slots.alone && t.names.alone }
 
 -- each slot counts what is assigned to it, and no assignment stands twice
 pub record Held (slots : List (Option Slot)) : Type 0 where
@@ -23,10 +23,6 @@ pub record Named (es : List Element) (names : List (List ℕ × ℕ)) : Type 0 w
   pub known : Each (λ e. lookup (bytes_eq e.name) names ≡ Some e.number) es
   pub found : (name : List ℕ) (n : ℕ) → lookup (bytes_eq name) names ≡ Some n → option_map (λ (e : Element). e.name) (element_at es n) ≡ Some name
 
--- after a change of what one name leads to
-abbrev pub Renames : List ℕ → Option ℕ → List (List ℕ × ℕ) → List (List ℕ × ℕ) → Type 0
-Renames name to old new = (q : List ℕ) → lookup (bytes_eq q) new ≡ (if bytes_eq name q then to else lookup (bytes_eq q) old)
-
 pub record Kept (slots : List (Option Slot)) (names : List (List ℕ × ℕ)) (live links : ℕ) : Type 0 where
   pub held : Held slots
   pub named : Named (shown slots) names
@@ -36,4 +32,4 @@ pub record Kept (slots : List (Option Slot)) (names : List (List ℕ × ℕ)) (l
   pub few_links : links ≤ max_assignments
 
 abbrev pub IsKept : Inside → Type 0
-IsKept t = Kept t.slots.items t.names.entries t.live t.links
+IsKept t = Kept t.slots.items t.names.items t.live t.links

@@ -1,6 +1,6 @@
 -- A slot for each number: free, or with an element, what it is assigned to, and how many are assigned to it.
-use Rattle.std.specs.Prelude.{ℕ, not, ◌+◌, ◌-◌, ◌==◌, List, [], ◌∷◌, ◌++◌, map, filter, Option, Some, None, option_map, option_to_list, unwrap_or, slice_get, slice_set}
-use Rattle.std.proofs.Common.{zero, suc}
+use Rattle.std.specs.Prelude.{ℕ, not, ◌+◌, ◌-◌, ◌==◌, List, [], ◌∷◌, ◌++◌, map, filter, Option, Some, None, option_map, option_to_list, unwrap_or, slice_get, slice_set, length, nat_lt, if◌then◌else◌}
+use Rattle.std.proofs.Common.{suc}
 use Rattle.pm_model.specs.State.{element}
 use Rattle.pm_model.specs.declared.elements.Element.{Element}
 use Rattle.pm_model.specs.declared.elements.Kind.{Kind}
@@ -74,11 +74,9 @@ linked x y slots = edited with_child y (edited (with_parent y) x slots)
 abbrev pub unlinked : ℕ → ℕ → List (Option Slot) → List (Option Slot)
 unlinked x y slots = edited without_child y (edited (without_parent y) x slots)
 
--- the slot of a number taken; one past the last is a slot more
-abbrev pub with_slot : ℕ → Slot → List (Option Slot) → List (Option Slot)
-with_slot n s [] = Some s ∷ []
-with_slot zero s (o ∷ slots) = Some s ∷ slots
-with_slot (suc n) s (o ∷ slots) = o ∷ with_slot n s slots
+-- the slots with one of this number: one past the last is a free slot more
+abbrev pub opened : ℕ → List (Option Slot) → List (Option Slot)
+opened n slots = if nat_lt n (length slots) then slots else slots ++ None ∷ []
 
 -- a new element, to which nothing is assigned
 abbrev pub new_slot : Kind → List ℕ → Option ℕ → Slot

@@ -3,6 +3,7 @@
 ghost use Rattle.std.specs.Prelude.{◌≡◌, ◌≢◌, None, OnOk, IfErr, IfSome};
 ghost use Rattle.pm_model.specs.Results.{first_of};
 ghost use Rattle.pm_model.specs.Effect.{create_checks, assign_checks, deassign_checks, IsCause};
+ghost use Rattle.pm_model.specs.Containment.{contained};
 ghost use Rattle.pm_model.specs.Formed.{IsLive};
 ghost use Rattle.pm_elements.specs.Checks.{add_checks};
 ghost use Rattle.pm_elements.specs.Told.{told, IsCycleOf};
@@ -54,14 +55,22 @@ impl Elements {
         Ok(())
     }
 
-    /// Whether x could be assigned to y: `BadKinds`, `Already`, `Cycle`, `Full`, in this order.
-    /// `Memory` comes where the search for a cycle finds none.
-    pub fn check_assign(&self, x: ElementId, y: ElementId) -> Result<(), ElementsError>
+    /// Whether x could be assigned to y: `BadKinds`, `Already`, `Cycle`, `Full`, in this order. The
+    /// caller says whether the assignment would close a cycle: where y is contained in x. It never
+    /// answers `Memory`.
+    pub fn check_assign(
+        &self,
+        x: ElementId,
+        y: ElementId,
+        closes: bool,
+    ) -> Result<(), ElementsError>
         requires x_live { IsLive self.now.elements x }
         requires y_live { IsLive self.now.elements y }
+        requires closes { closes ≡ contained self.now.assigned y x }
         ensures fits { OnOk result (first_of (assign_checks self.now.elements self.now.assigned x y) ≡ None) }
         ensures refused { IfErr result (λ e. IsCause (first_of (assign_checks self.now.elements self.now.assigned x y)) (told e)) }
         ensures ends { IfErr result (IsCycleOf x y) }
+        ensures no_memory { IfErr result (λ e. e ≢ ElementsError.Memory) }
     {
         if !self.may_assign(x, y) {
             return Err(ElementsError::BadKinds);
@@ -69,7 +78,7 @@ impl Elements {
         if self.is_assigned(x, y) {
             return Err(ElementsError::Already);
         }
-        if self.reaches(y, x)? {
+        if closes {
             return Err(ElementsError::Cycle { from: x, to: y });
         }
         if self.assignments() >= MAX_ASSIGNMENTS {

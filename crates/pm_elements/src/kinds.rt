@@ -6,7 +6,7 @@ ghost use Rattle.pm_model.specs.Effect.{may_assign, may_create, both};
 ghost use Rattle.pm_model.specs.Formed.{IsLive};
 ghost use Rattle.pm_elements.specs.Slots.{shown};
 
-use crate::slots::{Slot, taken_slot};
+use crate::slots::{Slots, taken_slot};
 use pm_model::{ElementId, Kind};
 
 /// Whether an element of one kind may be assigned to one of the other.
@@ -24,7 +24,7 @@ fn may_assign(x: Kind, y: Kind) -> bool
 
 /// Whether the kinds of two live elements allow the assignment.
 #[tactic(auto, using(crate::proofs::Shown::both_shown))]
-pub(crate) fn both_may_assign(slots: &Vec<Option<Slot>>, x: ElementId, y: ElementId) -> bool
+pub(crate) fn both_may_assign(slots: &Slots, x: ElementId, y: ElementId) -> bool
     requires x_live { IsLive (shown slots.now.items) x }
     requires y_live { IsLive (shown slots.now.items) y }
     ensures { result ≡ both may_assign (element_at (shown slots.now.items) x) (element_at (shown slots.now.items) y) }
@@ -34,7 +34,7 @@ pub(crate) fn both_may_assign(slots: &Vec<Option<Slot>>, x: ElementId, y: Elemen
 
 /// Whether an element of this kind may be made in the container, where there is one.
 #[tactic(auto, using(crate::proofs::Shown::create_shown))]
-pub(crate) fn may_create(slots: &Vec<Option<Slot>>, kind: Kind, into: Option<ElementId>) -> bool
+pub(crate) fn may_create(slots: &Slots, kind: Kind, into: Option<ElementId>) -> bool
     requires { IfSome into (IsLive (shown slots.now.items)) }
     ensures { result ≡ may_create (shown slots.now.items) kind into }
 {

@@ -5,7 +5,6 @@ mod checks;
 mod errors;
 mod kinds;
 mod links;
-mod names;
 mod places;
 mod removal;
 mod slots;

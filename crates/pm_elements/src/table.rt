@@ -1,6 +1,6 @@
 //! The table. Its slots and its names are written together, or not at all.
 
-ghost use Rattle.std.specs.Prelude.{◌≡◌, ◌≢◌, [], ◌<◌, true, false, None, Some, OnOk, OnErr, IfOk, IfErr, IfSome, is_some, option_map, length, filter, not};
+ghost use Rattle.std.specs.Prelude.{◌≡◌, ◌≢◌, [], ◌<◌, ◌≤◌, true, false, None, Some, OnOk, OnErr, IfOk, IfErr, IfSome, is_some, option_map, length, filter, not};
 ghost use Rattle.std.specs.List.{list_any};
 ghost use Rattle.pm_model.specs.Containment.{contained};
 ghost use Rattle.pm_model.specs.Effect.{max_elements, max_assignments, may_create, may_assign, both, is_pair, is_from, placed, with_pair, with_assignment, create_checks, assign_checks, deassign_checks, IsCause, has_child};
@@ -16,23 +16,25 @@ ghost use Rattle.pm_model.specs.declared.elements.Element.{Element};
 use crate::errors::ElementsError;
 use crate::kinds::{both_may_assign, may_create};
 use crate::links::{link, unlink};
-use crate::names::{copy_names, number_of};
-use crate::places::{NewElement, least_free, place};
+use crate::places::{NewElement, least_free, open_slot, place};
 use crate::removal::take_out;
 use crate::slots::{
-    Slot, child_count, copy_slots, has_parent, is_taken, next_taken, parent_count, taken_slot,
+    Slots, child_count, has_parent, is_taken, next_taken, no_slots, parent_at, parent_count,
+    taken_slot,
 };
-use indexmap::IndexMap;
 use pm_model::{ElementId, Kind, Memory, Name, NameOf, Parents, Reach};
+use pm_names::Names;
 use pm_search::PathReach;
 use std::alloc::Global;
 use std::marker::Model;
 
-/// The live policy elements and their assignments. Contracts see the two lists.
+/// The live policy elements and their assignments. Contracts see the two lists, and whether the table
+/// stands alone: then it has shared nothing since it was made, and what takes something out wants no
+/// memory.
 #[derive(Drop)]
 pub struct Elements {
-    slots: Vec<Option<Slot>>,
-    names: IndexMap<Name, ElementId>,
+    slots: Slots,
+    names: Names,
     live: usize,
     links: usize,
 }
@@ -54,6 +56,7 @@ impl Elements {
     pub fn opening(alloc: Global) -> Result<Elements, Memory>
         ensures elements { IfOk result (λ t. t.elements ≡ opening_elements) }
         ensures assigned { IfOk result (λ t. t.assigned ≡ opening_assigned) }
+        ensures alone { IfOk result (λ t. t.alone ≡ true) }
     {
         let mut table = Elements::empty(alloc);
         table.join(Kind::Pc, b"pm", None)?;
@@ -65,10 +68,11 @@ impl Elements {
     fn empty(alloc: Global) -> Elements
         ensures elements { result.elements ≡ [] }
         ensures assigned { result.assigned ≡ [] }
+        ensures alone { result.alone ≡ true }
     {
         Elements {
-            slots: Vec::new(alloc),
-            names: IndexMap::new(alloc),
+            slots: no_slots(alloc),
+            names: Names::new(alloc),
             live: 0,
             links: 0,
         }
@@ -80,6 +84,7 @@ impl Elements {
         requires into_live { IfSome into (IsLive self.old.elements) }
         ensures elements { OnOk result (self.new.elements ≡ placed (element (unused self.old.elements) kind name.now) self.old.elements) }
         ensures assigned { OnOk result (self.new.assigned ≡ with_pair into (unused self.old.elements) self.old.assigned) }
+        ensures alone { self.new.alone ≡ self.old.alone }
     {
         let name = Name::new(name).unwrap();
         match self.create(kind, name, into) {
@@ -88,14 +93,25 @@ impl Elements {
         }
     }
 
-    /// The same table once more.
-    pub fn copy(&self) -> Result<Elements, Memory>
-        ensures { IfOk result (λ same. same ≡ self.now) }
+    /// Lets copies share the table. It takes memory for what the table has for itself, but for no
+    /// element.
+    pub fn share(&mut self) -> Result<(), Memory>
+        ensures elements { self.new.elements ≡ self.old.elements }
+        ensures assigned { self.new.assigned ≡ self.old.assigned }
+        ensures alone { self.new.alone ≡ false }
     {
-        let alloc = *self.slots.allocator();
+        self.slots.share()?;
+        self.names.share()
+    }
+
+    /// The same table once more. It copies what isn't shared: so `share` comes first.
+    pub fn copy(&self) -> Result<Elements, Memory>
+        ensures elements { IfOk result (λ same. same.elements ≡ self.now.elements) }
+        ensures assigned { IfOk result (λ same. same.assigned ≡ self.now.assigned) }
+    {
         Ok(Elements {
-            slots: copy_slots(alloc, self.slots.as_slice())?,
-            names: copy_names(&self.names)?,
+            slots: self.slots.copy()?,
+            names: self.names.copy()?,
             live: self.live,
             links: self.links,
         })
@@ -106,7 +122,7 @@ impl Elements {
     pub fn find(&self, name: Name) -> Option<ElementId>
         ensures { result ≡ number_named self.now.elements name }
     {
-        number_of(&self.names, name)
+        self.names.find(&name)
     }
 
     /// Whether a live element has the number.
@@ -147,8 +163,10 @@ impl Elements {
     pub fn add(&mut self, kind: Kind, name: Name) -> Result<ElementId, ElementsError>
         ensures fits { OnOk result (first_of (add_checks self.old.elements name) ≡ None) }
         ensures number { IfOk result (λ n. n ≡ unused self.old.elements) }
+        ensures few { IfOk result (λ n. n < max_elements) }
         ensures elements { OnOk result (self.new.elements ≡ placed (element (unused self.old.elements) kind name) self.old.elements) }
         ensures assigned { OnOk result (self.new.assigned ≡ self.old.assigned) }
+        ensures alone { self.new.alone ≡ self.old.alone }
         ensures refused { IfErr result (λ e. IsCause (first_of (add_checks self.old.elements name)) (told e)) }
         ensures err { OnErr result (self.new ≡ self.old) }
     {
@@ -173,8 +191,10 @@ impl Elements {
         requires { IfSome into (IsLive self.old.elements) }
         ensures fits { OnOk result (first_of (create_checks self.old.elements self.old.assigned kind name into) ≡ None) }
         ensures number { IfOk result (λ n. n ≡ unused self.old.elements) }
+        ensures few { IfOk result (λ n. n < max_elements) }
         ensures elements { OnOk result (self.new.elements ≡ placed (element (unused self.old.elements) kind name) self.old.elements) }
         ensures assigned { OnOk result (self.new.assigned ≡ with_pair into (unused self.old.elements) self.old.assigned) }
+        ensures alone { self.new.alone ≡ self.old.alone }
         ensures refused { IfErr result (λ e. IsCause (first_of (create_checks self.old.elements self.old.assigned kind name into)) (told e)) }
         ensures err { OnErr result (self.new ≡ self.old) }
     {
@@ -191,11 +211,14 @@ impl Elements {
         requires few { length self.old.elements < max_elements }
         requires few_pairs { IfSome new.now.into (λ y. length self.old.assigned < max_assignments) }
         ensures number { IfOk result (λ n. n ≡ unused self.old.elements) }
+        ensures few { IfOk result (λ n. n < max_elements) }
         ensures elements { OnOk result (self.new.elements ≡ placed (element (unused self.old.elements) new.now.kind new.now.name) self.old.elements) }
         ensures assigned { OnOk result (self.new.assigned ≡ with_pair new.now.into (unused self.old.elements) self.old.assigned) }
+        ensures alone { self.new.alone ≡ self.old.alone }
         ensures err { OnErr result (self.new ≡ self.old) }
     {
         let id = self.unused();
+        open_slot(&mut self.slots, id)?;
         place(&mut self.slots, &mut self.names, id, new)?;
         self.live += 1;
         self.links += new.links();
@@ -203,55 +226,59 @@ impl Elements {
     }
 
     /// Assigns x to y, both live: `BadKinds`, `Already`, `Cycle` exactly where y is contained in x,
-    /// `Full` at 131,072 assignments, in this order; `Memory` where there was none.
-    pub fn assign(&mut self, x: ElementId, y: ElementId) -> Result<(), ElementsError>
+    /// which the caller says, `Full` at 131,072 assignments, in this order; `Memory` where there was
+    /// none.
+    pub fn assign(&mut self, x: ElementId, y: ElementId, closes: bool) -> Result<(), ElementsError>
         requires x_live { IsLive self.old.elements x }
         requires y_live { IsLive self.old.elements y }
+        requires closes { closes ≡ contained self.old.assigned y x }
         ensures fits { OnOk result (first_of (assign_checks self.old.elements self.old.assigned x y) ≡ None) }
         ensures ok { OnOk result (self.new ≡ record self.old { assigned = with_assignment (x, y) self.old.assigned }) }
         ensures refused { IfErr result (λ e. IsCause (first_of (assign_checks self.old.elements self.old.assigned x y)) (told e)) }
         ensures ends { IfErr result (IsCycleOf x y) }
         ensures err { OnErr result (self.new ≡ self.old) }
     {
-        self.check_assign(x, y)?;
+        self.check_assign(x, y, closes)?;
         link(&mut self.slots, x, y)?;
         self.links += 1;
         Ok(())
     }
 
     /// Takes the assignment of x to y away, both live: `Absent`, `LastContainer` exactly where y is
-    /// the only container of x, in this order. It takes no memory.
+    /// the only container of x, in this order; `Memory` where there was none, and never where the
+    /// table stands alone.
     pub fn deassign(&mut self, x: ElementId, y: ElementId) -> Result<(), ElementsError>
         requires x_live { IsLive self.old.elements x }
         requires y_live { IsLive self.old.elements y }
         ensures fits { OnOk result (first_of (deassign_checks self.old.assigned x y) ≡ None) }
         ensures ok { OnOk result (self.new ≡ record self.old { assigned = filter (λ pair. not (is_pair x y pair)) self.old.assigned }) }
         ensures refused { IfErr result (λ e. IsCause (first_of (deassign_checks self.old.assigned x y)) (told e)) }
-        ensures no_memory { IfErr result (λ e. e ≢ ElementsError.Memory) }
+        ensures no_memory { self.old.alone ≡ true → IfErr result (λ e. e ≢ ElementsError.Memory) }
         ensures err { OnErr result (self.new ≡ self.old) }
     {
         self.check_deassign(x, y)?;
-        unlink(&mut self.slots, x, y);
+        unlink(&mut self.slots, x, y)?;
         self.links -= 1;
         Ok(())
     }
 
     /// Takes a live element and its assignments out: `Occupied` exactly where something is assigned
-    /// to it. It takes no memory.
+    /// to it; `Memory` where there was none, and never where the table stands alone.
     pub fn remove(&mut self, id: ElementId) -> Result<(), ElementsError>
         requires { IsLive self.old.elements id }
         ensures fits { OnOk result (first_of (remove_checks self.old.assigned id) ≡ None) }
         ensures elements { OnOk result (self.new.elements ≡ filter (λ e. not (is_numbered id e)) self.old.elements) }
         ensures assigned { OnOk result (self.new.assigned ≡ filter (λ pair. not (is_from id pair)) self.old.assigned) }
+        ensures alone { self.new.alone ≡ self.old.alone }
         ensures refused { IfErr result (λ e. IsCause (first_of (remove_checks self.old.assigned id)) (told e)) }
-        ensures no_memory { IfErr result (λ e. e ≢ ElementsError.Memory) }
+        ensures no_memory { self.old.alone ≡ true → IfErr result (λ e. e ≢ ElementsError.Memory) }
         ensures err { OnErr result (self.new ≡ self.old) }
     {
         if self.has_children(id) {
             return Err(ElementsError::Occupied);
         }
         let links = self.containers(id);
-        take_out(&mut self.slots, &mut self.names, id);
+        take_out(&mut self.slots, &mut self.names, id)?;
         self.live -= 1;
         self.links -= links;
         Ok(())
@@ -267,7 +294,8 @@ impl Elements {
     /// The number that the next new element takes: the least that no live element has.
     #[tactic(auto, using(crate::proofs::Placing::unused_shown))]
     pub fn unused(&self) -> ElementId
-        ensures { result ≡ unused self.now.elements }
+        ensures number { result ≡ unused self.now.elements }
+        ensures few { result ≤ length self.now.elements }
     {
         least_free(&self.slots, self.live)
     }
@@ -287,8 +315,7 @@ impl Elements {
     pub fn paths(&self) -> Result<PathReach<'_, Elements>, Memory>
         ensures { IfOk result (λ r. r.parents.now ≡ self.now) }
     {
-        let alloc = *self.slots.allocator();
-        PathReach::new(alloc, self, self.slots.len())
+        PathReach::new(self.slots.allocator(), self, self.slots.len())
     }
 
     /// How many assignments there are.
@@ -340,16 +367,6 @@ impl Elements {
     {
         parent_count(&self.slots, x)
     }
-
-    /// Whether x is contained in y.
-    pub(crate) fn reaches(&self, x: ElementId, y: ElementId) -> Result<bool, Memory>
-        requires x_live { IsLive self.now.elements x }
-        requires y_live { IsLive self.now.elements y }
-        ensures { IfOk result (λ yes. yes ≡ contained self.now.assigned x y) }
-    {
-        let mut paths = self.paths()?;
-        Ok(paths.contains(x, y))
-    }
 }
 
 impl Parents for Elements {
@@ -367,7 +384,7 @@ impl Parents for Elements {
 
     #[tactic(auto, using(crate::proofs::Assigned::containers_held))]
     fn parent(&self, x: ElementId, i: usize) -> ElementId {
-        *taken_slot(&self.slots, x).parents.at(i)
+        parent_at(&self.slots, x, i)
     }
 }
 

@@ -1,5 +1,7 @@
 //! The table of a small policy, step by step, with answers worked out by hand.
 
+ghost use Rattle.std.specs.Prelude.{◌≡◌, IfOk};
+ghost use Rattle.pm_model.specs.Containment.{contained};
 ghost use Rattle.pm_model.specs.Formed.{IsLive};
 
 use crate::{Elements, ElementsError};
@@ -44,6 +46,23 @@ fn create(
     Ok(())
 }
 
+fn is_in(table: &Elements, x: ElementId, y: ElementId) -> Result<bool, Memory>
+    requires x_live { IsLive table.now.elements x }
+    requires y_live { IsLive table.now.elements y }
+    ensures { IfOk result (λ yes. yes ≡ contained table.now.assigned x y) }
+{
+    let mut paths = table.paths()?;
+    Ok(paths.contains(x, y))
+}
+
+fn join(table: &mut Elements, x: ElementId, y: ElementId) -> Result<(), ElementsError>
+    requires x_live { IsLive table.old.elements x }
+    requires y_live { IsLive table.old.elements y }
+{
+    let closes = is_in(table, y, x)?;
+    table.assign(x, y, closes)
+}
+
 fn assign(
     rt: &impl Abort,
     table: &mut Elements,
@@ -52,7 +71,7 @@ fn assign(
 ) -> Result<(), ElementsError> {
     let x = live_named(rt, table, from);
     let y = live_named(rt, table, to);
-    table.assign(x, y)
+    join(table, x, y)
 }
 
 fn deassign(
@@ -166,20 +185,34 @@ fn a_hole_is_found_and_filled(rt: HostRuntime) -> Result<(), Fail> {
     for (from, want) in [(0, Some(ElementId(0))), (7, Some(ElementId(8))), (9, None)] {
         assert_eq!(rt; table.next(from), want, "from {from}");
     }
-    let same = table.copy()?;
     assert_eq!(rt; table.unused(), ElementId(7));
     create(&rt, &mut table, Kind::Ua, "leads", "staff")?;
     assert_eq!(rt; table.find(named(&rt, "leads")), Some(ElementId(7)));
-    assert_eq!(rt; same.find(named(&rt, "leads")), None);
-    assert_eq!(rt; same.find(named(&rt, "memo")), Some(ElementId(8)));
     Ok(())
 }
 
 fn contains(rt: &impl Abort, table: &Elements, first: &str, second: &str) -> Result<bool, Memory> {
     let x = live_named(rt, table, first);
     let y = live_named(rt, table, second);
-    let mut paths = table.paths()?;
-    Ok(paths.contains(x, y))
+    is_in(table, x, y)
+}
+
+#[test]
+fn copies_go_apart(rt: HostRuntime) -> Result<(), Fail> {
+    let mut table = policy(&rt, rt.alloc())?;
+    table.share()?;
+    let mut same = table.copy()?;
+    assign(&rt, &mut table, "ann", "team")?;
+    deassign(&rt, &mut table, "ann", "staff")?;
+    remove(&rt, &mut table, "memo")?;
+    create(&rt, &mut same, Kind::Ua, "leads", "team")?;
+    assert!(rt; contains(&rt, &table, "ann", "team")?);
+    assert!(rt; !contains(&rt, &same, "ann", "team")?);
+    assert_eq!(rt; table.find(named(&rt, "memo")), None);
+    assert_eq!(rt; same.find(named(&rt, "memo")), Some(ElementId(8)));
+    assert_eq!(rt; table.find(named(&rt, "leads")), None);
+    assert_eq!(rt; same.find(named(&rt, "leads")), Some(ElementId(10)));
+    Ok(())
 }
 
 #[test]
@@ -218,7 +251,8 @@ fn questions_by_number(rt: HostRuntime) -> Result<(), Fail> {
         from: staff,
         to: team,
     };
-    assert_eq!(rt; table.check_assign(staff, team), Err(cycle));
+    let closes = is_in(&table, team, staff)?;
+    assert_eq!(rt; table.check_assign(staff, team, closes), Err(cycle));
     Ok(())
 }
 
@@ -283,7 +317,7 @@ fn attributes_and_objects(rt: &impl Abort, alloc: Global) -> Result<Elements, El
 fn put_into(rt: &impl Abort, table: &mut Elements, x: u32, y: u32) -> Result<(), ElementsError> {
     let x = live(rt, table, x);
     let y = live(rt, table, y);
-    table.assign(x, y)
+    join(table, x, y)
 }
 
 fn put_into_each(rt: &impl Abort, table: &mut Elements, object: u32) -> Result<(), ElementsError> {

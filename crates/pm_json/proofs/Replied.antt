@@ -42,8 +42,8 @@ spelt (k ∷ ks) w = if bytes_eq w (key_text k) then Some k else spelt ks w
 abbrev pub table_words : List (Word × Table)
 table_words =
     (word.Elements, table.Elements) ∷ (word.Assignments, table.Assignments) ∷ (word.Associations, table.Associations)
-    ∷ (word.Prohibitions, table.Prohibitions) ∷ (word.Sessions, table.Sessions) ∷ (word.Processes, table.Processes)
-    ∷ (word.Rights, table.Rights) ∷ (word.History, table.History) ∷ []
+    ∷ (word.Prohibitions, table.Prohibitions) ∷ (word.Obligations, table.Obligations) ∷ (word.Sessions, table.Sessions)
+    ∷ (word.Processes, table.Processes) ∷ (word.Rights, table.Rights) ∷ (word.History, table.History) ∷ []
 
 -- by the number of a process, or else of a session
 abbrev pub made_by : Option ℕ → Option ℕ → made.Shown

@@ -123,6 +123,7 @@ module _ (id : Option ℕ) (v : ℕ) (names : ℕ → List ℕ) where
   told_refused (refusal.Full table.Assignments) h = rw (or_none (whole_if id), number_told id) refl
   told_refused (refusal.Full table.Associations) h = rw (or_none (whole_if id), number_told id) refl
   told_refused (refusal.Full table.Prohibitions) h = rw (or_none (whole_if id), number_told id) refl
+  told_refused (refusal.Full table.Obligations) h = rw (or_none (whole_if id), number_told id) refl
   told_refused (refusal.Full table.Sessions) h = rw (or_none (whole_if id), number_told id) refl
   told_refused (refusal.Full table.Processes) h = rw (or_none (whole_if id), number_told id) refl
   told_refused (refusal.Full table.Rights) h = rw (or_none (whole_if id), number_told id) refl

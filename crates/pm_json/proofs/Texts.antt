@@ -100,6 +100,7 @@ word_name word.Elements = refl
 word_name word.Assignments = refl
 word_name word.Associations = refl
 word_name word.Prohibitions = refl
+word_name word.Obligations = refl
 word_name word.Sessions = refl
 word_name word.Processes = refl
 word_name word.History = refl

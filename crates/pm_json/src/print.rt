@@ -22,6 +22,7 @@ fn table_word(table: Table) -> Word
         Table::Assignments => Word::Assignments,
         Table::Associations => Word::Associations,
         Table::Prohibitions => Word::Prohibitions,
+        Table::Obligations => Word::Obligations,
         Table::Sessions => Word::Sessions,
         Table::Processes => Word::Processes,
         Table::Rights => Word::Rights,

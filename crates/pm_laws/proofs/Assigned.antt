@@ -20,10 +20,10 @@ use Rattle.pm_laws.proofs.Shape.{IsWithin, HasClass, acyclic-within, acyclic-add
 pub within-added : (pairs : List (ℕ × ℕ)) (x y : ℕ) → IsWithin pairs (with_assignment (x, y) pairs)
 within-added pairs x y a b c = added-has (x, y) pairs (a, b) (contains-rest (x, y) (a, b) pairs c)
 
-without-within : (pairs : List (ℕ × ℕ)) (x y : ℕ) → IsWithin (without x y pairs) pairs
+pub without-within : (pairs : List (ℕ × ℕ)) (x y : ℕ) → IsWithin (without x y pairs) pairs
 without-within pairs x y a b c = (filter-contains (λ pair. not (is_pair x y pair)) pairs (a, b) c).0
 
-within-without : (pairs : List (ℕ × ℕ)) (x y : ℕ) → IsWithin pairs ((x, y) ∷ without x y pairs)
+pub within-without : (pairs : List (ℕ × ℕ)) (x y : ℕ) → IsWithin pairs ((x, y) ∷ without x y pairs)
 within-without pairs x y a b c = elim (cases_Bool (is_pair x y (a, b))) [
   | inl is ↦ rw (pair-is x y (a, b) is) (contains-first (x, y) (without x y pairs))
   | inr other ↦ contains-rest (x, y) (a, b) (without x y pairs) (without-keeps x y pairs (a, b) c other)

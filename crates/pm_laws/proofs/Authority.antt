@@ -1,16 +1,18 @@
 -- What commands ask for: live elements and administrative rights, all of which the root user has. A command is ruled to
 -- be its change exactly where its names are found and each capability that the change asks for is allowed.
-use Rattle.std.proofs.Common.{◌≡◌, ◌↔◌, ◌<◌, ℕ, List, [], ◌∷◌, ◌++◌, length, Option, Some, None, IsSome, Ok, true, refl, subst, arith, unwrap_or, nat_le}
+use Rattle.std.proofs.Common.{◌≡◌, ◌↔◌, ◌<◌, ℕ, List, [], ◌∷◌, ◌++◌, length, Option, Some, None, IfSome, IsSome, Ok, true, refl, subst, arith, unwrap_or, nat_le}
 use Rattle.std.specs.List.{slice_get}
 use Rattle.std.proofs.lemmas.Bool.{and_parts, leb-true}
 use Rattle.std.proofs.lemmas.Option.{slice_get-get_or}
 use Rattle.pm_model.specs.State.{Graph, root}
 use Rattle.pm_model.specs.Sessions.{user_of}
 use Rattle.pm_model.specs.Resolve.{resolve}
-use Rattle.pm_model.specs.Authority.{right_to_create, to_prohibit_to, subject_element, prohibited_at, required, is_administrative, denial_in, denied_unless, first_denied, permitted, ruling}
-use Rattle.pm_model.specs.Formed.{Each, IsLive, IsNamed, IsWellFormed, IsSubjectLive, IsProhibition}
+use Rattle.pm_model.specs.Authority.{right_to_create, to_prohibit_to, subject_element, prohibited_at, watched_at, obliged_at, required, is_administrative, denial_in, denied_unless, first_denied, permitted, ruling}
+use Rattle.pm_model.specs.Formed.{Each, IsLive, IsNamed, IsWellFormed, IsSubjectLive, IsProhibition, IsObligation}
 use Rattle.pm_model.specs.declared.elements.Kind.{Kind}
 use Rattle.pm_model.specs.declared.elements.Kind.TheVariants.{User, Ua, Object, Oa, Pc}
+use Rattle.pm_model.specs.declared.events.Pattern.{Pattern}
+use Rattle.pm_model.specs.declared.obligations.Obligation.{Obligation}
 use Rattle.pm_model.specs.declared.prohibitions.Prohibition.{Prohibition}
 use Rattle.pm_model.specs.declared.prohibitions.Subject.{Subject}
 use Rattle.pm_model.specs.declared.prohibitions.Subject.TheVariants as subject
@@ -22,6 +24,7 @@ use Rattle.pm_model.specs.declared.replies.Refusal.{Refusal}
 use Rattle.pm_laws.proofs.Items.{each-from, each-to, each-at, each-map, each-append, get-contains}
 use Rattle.pm_laws.proofs.Checks.{unless-ok}
 use Rattle.pm_laws.proofs.Numbers.{live-some}
+use Rattle.pm_laws.proofs.Obligations.{watched-live}
 use Rattle.pm_laws.proofs.RightNames.{opening-few}
 use Rattle.pm_laws.proofs.Live.{user-live}
 use Rattle.pm_laws.proofs.Resolved.{and_then-ok, resolve-named}
@@ -39,6 +42,16 @@ subject-live G (subject.Process n) f h = of (user_of G.procs n) refl where
   of : (o : Option ℕ) → user_of G.procs n ≡ o → IsLive G.elements (unwrap_or o 0)
   of (Some u) is = user-live G n u f is
   of None is = pm-live G f
+
+pattern-live : (G : Graph) (p : Pattern) → IsWellFormed G → IfSome p.user (IsLive G.elements) → IfSome p.target (IsLive G.elements) →
+    Each (λ (c : ℕ × ℕ). IsLive G.elements c.1) (watched_at p)
+pattern-live G p f h k = of p.user p.target refl refl h k where
+  of : (user target : Option ℕ) → p.user ≡ user → p.target ≡ target → IfSome user (IsLive G.elements) → IfSome target (IsLive G.elements) →
+      Each (λ (c : ℕ × ℕ). IsLive G.elements c.1) (watched_at p)
+  of (Some x) (Some y) is at h k = rw (is, at) (h, (k, tt))
+  of (Some x) None is at h k = rw (is, at) (h, (pm-live G f, tt))
+  of None (Some y) is at h k = rw (is, at) (k, tt)
+  of None None is at h k = rw (is, at) (pm-live G f, tt)
 
 pub required-live : (G : Graph) (d : Change) → IsWellFormed G → IsNamed G d → Each (λ (c : ℕ × ℕ). IsLive G.elements c.1) (required G d)
 required-live G (change.Create id kind name None) f n = (pm-live G f, tt)
@@ -63,6 +76,13 @@ required-live G (change.Lift i) f n = of (slice_get G.prohibitions i) refl where
       let is = each-at (IsProhibition G.elements G.procs G.rights) G.prohibitions p f.prohibitions.each (get-contains G.prohibitions i p at) in
       (subject-live G p.subject f is.subject, tt)
   of None at = tt
+required-live G (change.Oblige o) f n = pattern-live G o.pattern f n.1 n.2
+required-live G (change.Withdraw i) f n = of (slice_get G.obligations i) refl where
+  of : (o : Option Obligation) → slice_get G.obligations i ≡ o → Each (λ (c : ℕ × ℕ). IsLive G.elements c.1) (obliged_at o)
+  of (Some o) at =
+      let is = each-at (IsObligation G.elements) G.obligations o f.obligations.each (get-contains G.obligations i o at) in
+      pattern-live G o.pattern f (watched-live G.elements o.pattern.user is.user) is.target
+  of None at = tt
 required-live G (change.DefineRight name) f n = (pm-live G f, tt)
 
 -- ---- the rights that are asked for are administrative
@@ -73,6 +93,12 @@ create-administrative Ua = refl
 create-administrative Oa = refl
 create-administrative Object = refl
 create-administrative Pc = refl
+
+watched-administrative : (p : Pattern) → Each (λ (c : ℕ × ℕ). is_administrative c.0 ≡ true) (watched_at p)
+watched-administrative p = of p.user refl where
+  of : (user : Option ℕ) → p.user ≡ user → Each (λ (c : ℕ × ℕ). is_administrative c.0 ≡ true) (watched_at p)
+  of (Some x) is = rw is (refl, (refl, tt))
+  of None is = rw is (refl, tt)
 
 pub required-administrative : (G : Graph) (d : Change) → Each (λ (c : ℕ × ℕ). is_administrative c.0 ≡ true) (required G d)
 required-administrative G (change.Create id kind name None) = (create-administrative kind, tt)
@@ -94,6 +120,11 @@ required-administrative G (change.Prohibit p) = (
 required-administrative G (change.Lift i) = of (slice_get G.prohibitions i) where
   of : (o : Option Prohibition) → Each (λ (c : ℕ × ℕ). is_administrative c.0 ≡ true) (prohibited_at G o)
   of (Some p) = (refl, tt)
+  of None = tt
+required-administrative G (change.Oblige o) = watched-administrative o.pattern
+required-administrative G (change.Withdraw i) = of (slice_get G.obligations i) where
+  of : (o : Option Obligation) → Each (λ (c : ℕ × ℕ). is_administrative c.0 ≡ true) (obliged_at o)
+  of (Some o) = watched-administrative o.pattern
   of None = tt
 required-administrative G (change.DefineRight name) = (refl, tt)
 

@@ -1,27 +1,30 @@
 -- The graph where an element goes that no assignment leads to and nothing else names: one lemma for each list.
-use Rattle.std.proofs.Common.{◌≡◌, ◌≤◌, ◌<◌, ◌+◌, ◌==◌, ◌||◌, ℕ, List, [], ◌∷◌, Some, Bool, true, false, not, arith, filter, Contains}
+use Rattle.std.proofs.Common.{◌≡◌, ◌≤◌, ◌<◌, ◌+◌, ◌==◌, ◌||◌, ℕ, List, [], ◌∷◌, Option, Some, None, IfSome, Bool, true, false, not, refl, arith, filter, Contains}
 use Rattle.std.specs.List.{list_any}
 use Rattle.std.proofs.lemmas.Bool.{eqb-false, ne_eqb, or_parts, not-true, not_from_false}
 use Rattle.pm_model.specs.State.{element_at, is_numbered, is_named, opening_elements}
 use Rattle.pm_model.specs.Containment.{Leads, IsContained}
 use Rattle.pm_model.specs.Sessions.{Procs, is_session_of}
 use Rattle.pm_model.specs.Prohibitions.{is_subject, names_element}
-use Rattle.pm_model.specs.Effect.{both, may_assign, may_associate, is_from, is_to, has_child, has_end}
-use Rattle.pm_model.specs.Formed.{Each, AreRising, HaveOwnNames, AreElements, IsLive, IsUser, JoinsKinds, IsInClass, AreAssigned, JoinsAttributes, AreAssociations, AreProcs, IsSubjectLive, AreProhibitions, Stands, StandsAssigned, HasOpening}
+use Rattle.pm_model.specs.Obligations.{concerns, is_given}
+use Rattle.pm_model.specs.Effect.{is_actor_kind, both, may_watch, may_assign, may_associate, is_from, is_to, has_child, has_end}
+use Rattle.pm_model.specs.Formed.{Each, AreRising, HaveOwnNames, AreElements, IsLive, IsUser, JoinsKinds, IsInClass, AreAssigned, JoinsAttributes, AreAssociations, AreProcs, IsSubjectLive, AreProhibitions, AreObligations, Stands, StandsAssigned, HasOpening}
 use Rattle.pm_model.specs.declared.elements.Kind.{Kind}
 use Rattle.pm_model.specs.declared.elements.Element.{Element}
 use Rattle.pm_model.specs.declared.rights.Association.{Association}
 use Rattle.pm_model.specs.declared.sessions.Session.{Session}
 use Rattle.pm_model.specs.declared.prohibitions.Prohibition.{Prohibition}
+use Rattle.pm_model.specs.declared.obligations.Obligation.{Obligation}
 use Rattle.pm_model.specs.declared.prohibitions.Subject.{Subject}
 use Rattle.pm_model.specs.declared.prohibitions.Subject.TheVariants as subject
 use Rattle.pm_model.proofs.ContainmentLaws.{contained-from_path, path-from_contained}
 use Rattle.pm_laws.proofs.Items.{each-at, each-from, filter-contains, filter-split, contains-filter, length-filter, find-filter, none-at, none-from}
 use Rattle.pm_laws.proofs.Numbers.{found-at, live-found}
-use Rattle.pm_laws.proofs.Ends.{both-live, user-lives}
+use Rattle.pm_laws.proofs.Ends.{both-live, kind-lives, user-lives}
 use Rattle.pm_laws.proofs.Pairs.{assigned-is, assigned-at, once-filter}
 use Rattle.pm_laws.proofs.Shape.{IsWithin, HasClass, acyclic-within, class-found, class-from}
 use Rattle.pm_laws.proofs.Prohibitions.{prohibitions-to}
+use Rattle.pm_laws.proofs.Obligations.{obligations-to}
 
 -- ---- some elements of a list
 
@@ -30,7 +33,7 @@ module _ (test : Element → Bool) where
   rising-lower m n [] less h = tt
   rising-lower m n (e ∷ es) less h = (omega (arith, less, h.0), h.1)
 
-  rising-filter : (n : ℕ) (es : List Element) → AreRising n es → AreRising n (filter test es)
+  pub rising-filter : (n : ℕ) (es : List Element) → AreRising n es → AreRising n (filter test es)
   rising-filter n [] h = tt
   rising-filter n (e ∷ es) h = let rest = rising-filter (e.number + 1) es h.1 in
       filter-split test (AreRising n) e es (λ is. (h.0, rest))
@@ -98,7 +101,7 @@ module _ (id : ℕ) where
 
   -- ---- assignments
 
-  pairs-within : (pairs : List (ℕ × ℕ)) → IsWithin (left_pairs pairs) pairs
+  pub pairs-within : (pairs : List (ℕ × ℕ)) → IsWithin (left_pairs pairs) pairs
   pairs-within pairs x y c = (filter-contains (λ pair. not (is_from id pair)) pairs (x, y) c).0
 
   pair-left : (pairs : List (ℕ × ℕ)) (x y : ℕ) → (x ≡ id → ⊥) → Contains pairs (x, y) → Contains (left_pairs pairs) (x, y)
@@ -109,7 +112,7 @@ module _ (id : ℕ) where
   to-apart pairs x y none c = apart y (none-at (is_to id) pairs (x, y) none c)
 
   -- so none does that starts elsewhere
-  leads-left : (pairs : List (ℕ × ℕ)) → has_child pairs id ≡ false → (x : ℕ) (path : List ℕ) (y : ℕ) → (x ≡ id → ⊥) →
+  pub leads-left : (pairs : List (ℕ × ℕ)) → has_child pairs id ≡ false → (x : ℕ) (path : List ℕ) (y : ℕ) → (x ≡ id → ⊥) →
       Leads pairs x path y → Leads (left_pairs pairs) x path y × (y ≡ id → ⊥)
   leads-left pairs none x [] y other l = (l, λ same. other (rw l same))
   leads-left pairs none x (z ∷ rest) y other l =
@@ -188,6 +191,27 @@ module _ (id : ℕ) where
         exc = each-left es p.exc both.1 is.exc;
         named = is.named;
         ranged = is.ranged;
+      })
+
+  watched-left : (es : List Element) (user : Option ℕ) → is_given id user ≡ false → may_watch es user ≡ true → may_watch (left es) user ≡ true
+  watched-left es None other h = refl
+  watched-left es (Some n) other h = rw (found-left es n (apart n other) (kind-lives is_actor_kind es n h)) h
+
+  given-left : (es : List Element) (target : Option ℕ) → is_given id target ≡ false → IfSome target (IsLive es) →
+      IfSome target (IsLive (left es))
+  given-left es None other h = tt
+  given-left es (Some n) other h = live-left es n (apart n other) h
+
+  pub obligations-unnamed : (es : List Element) (os : List Obligation) → list_any (concerns id) os ≡ false → AreObligations es os →
+      AreObligations (left es) os
+  obligations-unnamed es os none =
+      obligations-to es (left es) os (λ o c is.
+      let other = none-at (concerns id) os o none c in
+      let both = or_parts (o.author == id || is_given id o.pattern.user) (is_given id o.pattern.target) other in
+      let first = or_parts (o.author == id) (is_given id o.pattern.user) both.0 in record {
+        author = user-left es o.author (apart o.author first.0) is.author;
+        user = watched-left es o.pattern.user first.1 is.user;
+        target = given-left es o.pattern.target both.1 is.target;
       })
 
   -- ---- the opening's

@@ -14,12 +14,16 @@ both-live fits (Some a) (Some b) h = (refl, refl)
 both-live fits (Some a) None h = absurd (cc)
 both-live fits None b h = absurd (cc)
 
--- a user is live
-pub user-lives : (es : List Element) (n : ℕ) → IsUser es n → IsLive es n
-user-lives es n h = of (element_at es n) h where
-  of : (o : Option Element) → has_kind is_user_kind o ≡ true → IsSome o
+-- what has a kind is live
+pub kind-lives : (fits : Kind → Bool) (es : List Element) (n : ℕ) → has_kind fits (element_at es n) ≡ true → IsLive es n
+kind-lives fits es n h = of (element_at es n) h where
+  of : (o : Option Element) → has_kind fits o ≡ true → IsSome o
   of (Some e) is = refl
   of None is = absurd (cc)
+
+-- a user is live
+pub user-lives : (es : List Element) (n : ℕ) → IsUser es n → IsLive es n
+user-lives es n h = kind-lives is_user_kind es n h
 
 both-kinds : (fits : Kind → Kind → Bool) (a b : Element) (c : Option Element) → a.kind ≡ b.kind → both fits (Some a) c ≡ true →
     both fits (Some b) c ≡ true

@@ -5,14 +5,16 @@ use Rattle.std.proofs.lemmas.Bool.{leb-false, ltb-false, not-false, or_parts}
 use Rattle.pm_model.specs.State.{Graph, element, is_named, opening, opening_elements, opening_assigned, root}
 use Rattle.pm_model.specs.Sessions.{Procs, is_session_of, opening_procs, processes_of, with_session, without_session, with_process, without_process}
 use Rattle.pm_model.specs.Prohibitions.{without_processes, names_element}
+use Rattle.pm_model.specs.Obligations.{concerns}
 use Rattle.pm_model.specs.RightSet.{opening_rights}
 use Rattle.pm_model.specs.Containment.{contained}
 use Rattle.pm_model.specs.Effect.{refusal, changed, effect, checks, max_elements, placed, with_assignment, joins, has_child, has_end, is_in_use}
 use Rattle.pm_model.specs.Resolve.{unused}
-use Rattle.pm_model.specs.Formed.{Each, IsWellFormed, IsAcyclic, IsNamed, AreElements, AreAssigned, AreAssociations, AreProhibitions, AreRights, AreProcs, StandsAssigned}
+use Rattle.pm_model.specs.Formed.{Each, IsWellFormed, IsAcyclic, IsNamed, AreElements, AreAssigned, AreAssociations, AreProhibitions, AreObligations, AreRights, AreProcs, StandsAssigned}
 use Rattle.pm_model.specs.declared.elements.Element.{Element}
 use Rattle.pm_model.specs.declared.rights.Association.{Association}
 use Rattle.pm_model.specs.declared.prohibitions.Prohibition.{Prohibition}
+use Rattle.pm_model.specs.declared.obligations.Obligation.{Obligation}
 use Rattle.pm_model.specs.declared.requests.Change.{Change}
 use Rattle.pm_model.specs.declared.requests.Change.TheVariants as change
 use Rattle.pm_laws.proofs.Items.{contains-none}
@@ -25,7 +27,8 @@ use Rattle.pm_laws.proofs.Associations.{associations-joined, associations-kept, 
 use Rattle.pm_laws.proofs.RightNames.{rights-more, rights-opening}
 use Rattle.pm_laws.proofs.Procs.{procs-opened, procs-closed, procs-started, procs-ended, procs-placed}
 use Rattle.pm_laws.proofs.Prohibitions.{prohibitions-pushed, prohibitions-removed, prohibitions-none, prohibitions-placed, prohibitions-rights, prohibitions-opened, prohibitions-started, prohibitions-left, process-kept, process-left}
-use Rattle.pm_laws.proofs.Deleted.{elements-left, assigned-left, associations-left, procs-left, prohibitions-unnamed, opening-left}
+use Rattle.pm_laws.proofs.Obligations.{obligations-pushed, obligations-removed, obligations-none, obligations-placed}
+use Rattle.pm_laws.proofs.Deleted.{elements-left, assigned-left, associations-left, procs-left, prohibitions-unnamed, obligations-unnamed, opening-left}
 use Rattle.pm_laws.proofs.Opening.{opening-placed, opening-within, opening-without}
 
 -- ---- elements
@@ -47,6 +50,7 @@ with-assigned G pairs f h o = record {
   assigned = h;
   associations = f.associations;
   prohibitions = f.prohibitions;
+  obligations = f.obligations;
   rights = f.rights;
   procs = f.procs;
   opening = record { elements = f.opening.elements; assigned = o };
@@ -59,6 +63,7 @@ with-associations G associations f h = record {
   assigned = f.assigned;
   associations = h;
   prohibitions = f.prohibitions;
+  obligations = f.obligations;
   rights = f.rights;
   procs = f.procs;
   opening = f.opening;
@@ -71,6 +76,20 @@ with-prohibitions G ps f h = record {
   assigned = f.assigned;
   associations = f.associations;
   prohibitions = h;
+  obligations = f.obligations;
+  rights = f.rights;
+  procs = f.procs;
+  opening = f.opening;
+}
+
+pub with-obligations : (G : Graph) (os : List Obligation) → IsWellFormed G → AreObligations G.elements os →
+    IsWellFormed (record G { obligations = os })
+with-obligations G os f h = record {
+  elements = f.elements;
+  assigned = f.assigned;
+  associations = f.associations;
+  prohibitions = f.prohibitions;
+  obligations = h;
   rights = f.rights;
   procs = f.procs;
   opening = f.opening;
@@ -84,6 +103,7 @@ with-procs G P ps f h k = record {
   assigned = f.assigned;
   associations = f.associations;
   prohibitions = k;
+  obligations = f.obligations;
   rights = f.rights;
   procs = h;
   opening = f.opening;
@@ -97,6 +117,7 @@ with-right G name f h = record {
   assigned = f.assigned;
   associations = associations-rights G.elements G.rights name G.associations f.associations;
   prohibitions = prohibitions-rights G.elements G.procs G.rights name G.prohibitions f.prohibitions;
+  obligations = f.obligations;
   rights = h;
   procs = f.procs;
   opening = f.opening;
@@ -111,6 +132,7 @@ with-element G x pairs f u e h more = record {
   assigned = h;
   associations = associations-placed G.elements G.rights x G.associations f.elements u f.associations;
   prohibitions = prohibitions-placed G.elements x G.procs G.rights G.prohibitions f.elements u f.prohibitions;
+  obligations = obligations-placed G.elements x G.obligations f.elements u f.obligations;
   rights = f.rights;
   procs = procs-placed G.elements x G.procs f.elements u f.procs;
   opening = record {
@@ -127,16 +149,21 @@ without-element G id f later empty free = record {
   assigned = assigned-left id G.elements G.assigned empty f.assigned;
   associations = associations-left id G.elements G.rights G.associations named.0 f.associations;
   prohibitions = prohibitions-unnamed id G.elements G.procs G.rights G.prohibitions named.1 f.prohibitions;
+  obligations = obligations-unnamed id G.elements G.obligations lists.1 f.obligations;
   rights = f.rights;
   procs = procs-left id G.elements G.procs all.1 f.procs;
   opening = opening-left id G.elements G.assigned later f.opening;
 } where
-  all : ((list_any (has_end id) G.associations || list_any (names_element id) G.prohibitions) ≡ false)
+  all : ((list_any (has_end id) G.associations || list_any (names_element id) G.prohibitions || list_any (concerns id) G.obligations) ≡ false)
       × (list_any (is_session_of id) G.procs.sessions ≡ false)
   all = or_parts _ _ free
 
+  lists : ((list_any (has_end id) G.associations || list_any (names_element id) G.prohibitions) ≡ false)
+      × (list_any (concerns id) G.obligations ≡ false)
+  lists = or_parts _ _ all.0
+
   named : (list_any (has_end id) G.associations ≡ false) × (list_any (names_element id) G.prohibitions ≡ false)
-  named = or_parts _ _ all.0
+  named = or_parts _ _ lists.0
 
 -- ---- changes
 
@@ -196,6 +223,13 @@ formed-changed G (change.Prohibit q) f n r =
     (record { subject = n.0; inc = n.1; exc = n.2; named = n.3; ranged = p.1.1.0 }) p.1.0 (leb-false _ _ p.1.1.1.0))
 formed-changed G (change.Lift i) f n r =
     with-prohibitions G (remove G.prohibitions i) f (prohibitions-removed G.elements G.procs G.rights G.prohibitions i f.prohibitions n)
+formed-changed G (change.Oblige o) f n r =
+    let p = passed (checks G (change.Oblige o)) r in
+    with-obligations G (G.obligations ++ o ∷ []) f
+    (obligations-pushed G.elements G.obligations o f.obligations
+    (record { author = n.0; user = not-false _ p.0; target = n.2 }) p.1.0 (leb-false _ _ p.1.1.0))
+formed-changed G (change.Withdraw i) f n r =
+    with-obligations G (remove G.obligations i) f (obligations-removed G.elements G.obligations i f.obligations n)
 formed-changed G (change.DefineRight name) f _ r =
     let p = passed (checks G (change.DefineRight name)) r in
     with-right G name f (rights-more G.rights name f.rights (or_parts _ _ p.0).0 (leb-false _ _ p.1.0))
@@ -226,6 +260,7 @@ formed-opening = record {
   };
   associations = associations-none opening_elements opening_rights;
   prohibitions = prohibitions-none opening_elements (opening_procs root) opening_rights;
+  obligations = obligations-none opening_elements;
   rights = rights-opening;
   procs = record {
     numbered = record { sessions = (omega arith, omega arith); processes = (omega arith, omega arith) };

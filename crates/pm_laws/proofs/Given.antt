@@ -62,6 +62,8 @@ changed-gives G c = of c where
       (sessions, given-fewer (λ (p : Process). p.number) (λ p. not (is_process n p)) G.procs.processes G.procs.next_process)
   of (change.Prohibit p) = (sessions, processes)
   of (change.Lift i) = (sessions, processes)
+  of (change.Oblige o) = (sessions, processes)
+  of (change.Withdraw i) = (sessions, processes)
   of (change.DefineRight name) = (sessions, processes)
 
 -- what an effect makes has the next numbers

@@ -19,6 +19,7 @@ pub mod Live
 pub mod Nameable
 pub mod Names
 pub mod Numbers
+pub mod Obligations
 pub mod Once
 pub mod Opening
 pub mod Pairs

@@ -1,14 +1,15 @@
--- What is live in a well formed graph: its classes, both ends of each association, what prohibitions name, the users of
--- processes, and the root user.
+-- What is live in a well formed graph: its classes, both ends of each association, what prohibitions name, the authors of
+-- obligations, the users of processes, and the root user.
 use Rattle.std.proofs.Common.{◌≡◌, ℕ, Bool, Option, Some, None, IsTrue, is_some, option_map, option_and_then, filter, Contains, refl, subst}
 use Rattle.std.specs.List.{All}
 use Rattle.std.proofs.lemmas.List.Elements.{All-contains, All-contains_itself, All-filter, All-map}
 use Rattle.pm_model.specs.State.{Graph, element_at, is_class, classes_in}
 use Rattle.pm_model.specs.Sessions.{Procs, session_at, process_at, user_of_session, user_of}
 use Rattle.pm_model.specs.Effect.{may_associate}
-use Rattle.pm_model.specs.Formed.{Each, IsLive, IsUser, IsSubjectLive, IsProhibition, JoinsAttributes, IsWellFormed}
+use Rattle.pm_model.specs.Formed.{Each, IsLive, IsUser, IsSubjectLive, IsProhibition, IsObligation, JoinsAttributes, IsWellFormed}
 use Rattle.pm_model.specs.declared.elements.Element.{Element}
 use Rattle.pm_model.specs.declared.rights.Association.{Association}
+use Rattle.pm_model.specs.declared.obligations.Obligation.{Obligation}
 use Rattle.pm_model.specs.declared.prohibitions.Prohibition.{Prohibition}
 use Rattle.pm_model.specs.declared.prohibitions.Subject.{Subject}
 use Rattle.pm_model.specs.declared.prohibitions.Subject.TheVariants.{User, Ua, Process}
@@ -61,6 +62,10 @@ prohibitions-live G f =
       of (User n) h = h
       of (Ua n) h = h
       of (Process n) h = tt
+
+-- the author of an obligation is a user
+pub author_is : (G : Graph) (o : Obligation) → IsWellFormed G → Contains G.obligations o → IsUser G.elements o.author
+author_is G o f c = (each-at (IsObligation G.elements) G.obligations o f.obligations.each c).author
 
 -- the user of a process, by the process and its session
 pub user-found : (P : Procs) (n u : ℕ) → user_of P n ≡ Some u →

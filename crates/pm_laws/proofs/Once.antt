@@ -12,7 +12,7 @@ use Rattle.pm_model.specs.Made.{made_by, shown_of}
 use Rattle.pm_model.specs.Answer.{Answer, told, made, entered, acting, if_access, accessed, granted_unless, reply_or, answer_body, is_ahead, proposed, longest_history, answer, after}
 use Rattle.pm_model.specs.History.{replay_from}
 use Rattle.pm_model.specs.declared.requests.Change.{Change}
-use Rattle.pm_model.specs.declared.requests.Change.TheVariants.{Create, Delete, Assign, Deassign, Associate, Dissociate, OpenSession, CloseSession, StartProcess, EndProcess, Prohibit, Lift, DefineRight}
+use Rattle.pm_model.specs.declared.requests.Change.TheVariants.{Create, Delete, Assign, Deassign, Associate, Dissociate, OpenSession, CloseSession, StartProcess, EndProcess, Prohibit, Lift, Oblige, Withdraw, DefineRight}
 use Rattle.pm_model.specs.declared.requests.Body.{Body}
 use Rattle.pm_model.specs.declared.requests.Body.TheVariants as body
 use Rattle.pm_model.specs.declared.requests.Entry.{Entry}
@@ -46,6 +46,8 @@ session-shown G (CloseSession s) n h = absurd (cc)
 session-shown G (EndProcess p) n h = absurd (cc)
 session-shown G (Prohibit p) n h = absurd (cc)
 session-shown G (Lift i) n h = absurd (cc)
+session-shown G (Oblige o) n h = absurd (cc)
+session-shown G (Withdraw i) n h = absurd (cc)
 session-shown G (DefineRight name) n h = absurd (cc)
 
 process-shown : (G : Graph) (c : Change) (n : ℕ) → shown_of (made_by G c) ≡ shown.Process n →
@@ -62,6 +64,8 @@ process-shown G (CloseSession s) n h = absurd (cc)
 process-shown G (EndProcess p) n h = absurd (cc)
 process-shown G (Prohibit p) n h = absurd (cc)
 process-shown G (Lift i) n h = absurd (cc)
+process-shown G (Oblige o) n h = absurd (cc)
+process-shown G (Withdraw i) n h = absurd (cc)
 process-shown G (DefineRight name) n h = absurd (cc)
 
 -- ---- an access accepts nothing

@@ -128,6 +128,8 @@ module _ (named : ℕ → Bool) where
   checks-told G (change.EndProcess n) = (tt, (tt, tt))
   checks-told G (change.Prohibit p) = (tt, (tt, (tt, (tt, tt))))
   checks-told G (change.Lift i) = tt
+  checks-told G (change.Oblige o) = (tt, (tt, (tt, tt)))
+  checks-told G (change.Withdraw i) = tt
   checks-told G (change.DefineRight name) = (tt, (tt, tt))
 
   pub effect-told : (G : Graph) (change : Change) → IsTold (effect G change)

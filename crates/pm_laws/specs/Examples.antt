@@ -9,15 +9,18 @@ use Rattle.pm_model.specs.declared.elements.Element.{Element}
 use Rattle.pm_model.specs.declared.requests.Command.{Command}
 use Rattle.pm_model.specs.declared.requests.Command.TheVariants as command
 use Rattle.pm_model.specs.declared.requests.Change.{Change}
-use Rattle.pm_model.specs.declared.requests.Change.TheVariants.{Create, Delete, Assign, Deassign, Associate, Dissociate, OpenSession, CloseSession, StartProcess, EndProcess, Prohibit, Lift, DefineRight}
+use Rattle.pm_model.specs.declared.requests.Change.TheVariants.{Create, Delete, Assign, Deassign, Associate, Dissociate, OpenSession, CloseSession, StartProcess, EndProcess, Prohibit, Lift, Oblige, Withdraw, DefineRight}
 use Rattle.pm_model.specs.declared.rights.Association.{Association}
 use Rattle.pm_model.specs.declared.prohibitions.Prohibition.{Prohibition}
 use Rattle.pm_model.specs.declared.prohibitions.Mode.TheVariants.{All}
 use Rattle.pm_model.specs.declared.prohibitions.Subject.TheVariants as subject
+use Rattle.pm_model.specs.declared.obligations.Obligation.{Obligation}
+use Rattle.pm_model.specs.declared.actions.Term.TheVariants.{EventTarget}
+use Rattle.pm_model.specs.declared.actions.Act.TheVariants as act
 use Rattle.pm_model.specs.declared.sessions.Session.{Session}
 use Rattle.pm_model.specs.declared.sessions.Process.{Process}
 use Rattle.pm_model.specs.declared.replies.Refusal.{Refusal}
-use Rattle.pm_model.specs.declared.replies.Refusal.TheVariants.{UnknownProcess, UnknownSession, UnknownName, Denied, BadKinds, NameTaken, Already, Absent, Cycle, Occupied, LastContainer, Builtin, EmptyRange}
+use Rattle.pm_model.specs.declared.replies.Refusal.TheVariants.{UnknownProcess, UnknownSession, UnknownName, Denied, BadKinds, NameTaken, Already, Absent, Cycle, Occupied, LastContainer, Builtin, EmptyRange, InUse}
 use Rattle.pm_model.specs.declared.replies.Reason.TheVariants as reason
 
 -- the opening graph, and more
@@ -71,6 +74,29 @@ lock = prohibition (codes "lock") (subject.User 2) 1 (1 ∷ []) [] All
 abbrev pub held : Graph
 held = working started (hold ∷ lock ∷ [])
 
+-- what these do to that is deleted, by the authority of the author
+abbrev pub obligation : List ℕ → ℕ → Option ℕ → Option ℕ → Obligation
+obligation name author user target = record {
+  name = name;
+  author = author;
+  pattern = record { on = codes "read"; user = user; target = target };
+  response = record { guards = []; act = act.Delete EventTarget } ∷ [];
+}
+
+-- of ann, for what surgeons read of the chart
+abbrev pub watch : Obligation
+watch = obligation (codes "watch") 5 (Some 4) (Some 6)
+
+-- of root, for all that is read
+abbrev pub log : Obligation
+log = obligation (codes "log") 2 None None
+
+-- doctors and surgeons, ann who is a doctor, and a chart, with these obligations
+abbrev pub watching : List Obligation → Graph
+watching obligations =
+    record (opening_with (doctors ∷ surgeons ∷ element 5 User (codes "ann") ∷ element 6 Object (codes "chart") ∷ [])
+    ((3, 0) ∷ (4, 3) ∷ (5, 3) ∷ (6, 0) ∷ [])) { obligations = obligations }
+
 -- a graph, a change of it, and what the change makes
 abbrev pub made : List (Graph × Change × Graph)
 made =
@@ -105,6 +131,16 @@ made =
     ∷ (held, CloseSession 1, working (procs (session 0 2 ∷ []) (process 0 0 ∷ []) 2 2) (lock ∷ []))
     ∷ (held, EndProcess 1, working (procs (session 0 2 ∷ session 1 2 ∷ []) (process 0 0 ∷ []) 2 2) (lock ∷ []))
     ∷ (held, Lift 0, working started (lock ∷ []))
+    ∷ (watching [], Oblige watch, watching (watch ∷ []))
+    ∷ (watching (watch ∷ []), Oblige log, watching (watch ∷ log ∷ []))
+    ∷ (watching (watch ∷ log ∷ []), Withdraw 1, watching (watch ∷ []))
+    -- without its obligation an author may go
+    ∷ (
+      watching (log ∷ []),
+      Delete 5,
+      record (opening_with (doctors ∷ surgeons ∷ element 6 Object (codes "chart") ∷ [])
+          ((3, 0) ∷ (4, 3) ∷ (6, 0) ∷ [])) { obligations = log ∷ [] },
+    )
     ∷ (opening.graph, DefineRight (codes "sign"), record opening_graph { rights = opening_rights ++ codes "sign" ∷ [] }) ∷ []
 
 -- a change of `staffed`, and why it is refused
@@ -146,6 +182,17 @@ refused_at_work =
     -- the name of a right, and the word of a command
     ∷ (DefineRight (codes "read"), NameTaken)
     ∷ (DefineRight (codes "lift"), NameTaken) ∷ []
+
+-- a change where ann's obligation stands, and why it is refused
+abbrev pub refused_at_watch : List (Change × Refusal)
+refused_at_watch =
+    -- a chart in place of a user, and a name that stands
+    (Oblige (obligation (codes "bar") 5 (Some 6) None), BadKinds)
+    ∷ (Oblige (obligation (codes "watch") 2 None None), NameTaken)
+    -- the author, the user and the target
+    ∷ (Delete 5, InUse)
+    ∷ (Delete 4, InUse)
+    ∷ (Delete 6, InUse) ∷ []
 
 -- element 4 is at an end of an association, named by a prohibition, or the user of a session
 abbrev pub in_use : List Graph
@@ -216,6 +263,12 @@ unformed =
     ∷ working (procs (session 0 2 ∷ []) (process 0 0 ∷ []) 2 2) (hold ∷ [])
     -- a prohibition without a range
     ∷ working started (prohibition (codes "bar") (subject.Process 1) 1 [] [] All ∷ [])
+    -- two obligations of one name
+    ∷ watching (watch ∷ watch ∷ [])
+    -- an obligation by an attribute, one that waits for what a chart does, and one on nothing
+    ∷ watching (obligation (codes "bar") 4 None None ∷ [])
+    ∷ watching (obligation (codes "bar") 5 (Some 6) None ∷ [])
+    ∷ watching (obligation (codes "bar") 5 None (Some 7) ∷ [])
     -- a process of no session
     ∷ working (procs (session 0 2 ∷ []) (process 0 0 ∷ process 1 1 ∷ []) 2 2) []
     -- a session of no element, of a class, of a user attribute

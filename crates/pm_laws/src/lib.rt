@@ -1,7 +1,7 @@
 //! What the definitions of the graph say of one another: laws, with no program.
 #![tactic(auto)]
 
-ghost use Rattle.std.specs.Prelude.{◌≡◌, ◌↔◌, ◌≤◌, ◌<◌, ◌+◌, ◌⊎◌, ℕ, List, Contains, [], length, Option, Some, IsSome, slice_get, None, Ok, Err, is_some, true, false};
+ghost use Rattle.std.specs.Prelude.{◌≡◌, ◌↔◌, ◌≤◌, ◌<◌, ◌+◌, ◌⊎◌, ℕ, List, Contains, [], ◌∷◌, length, Option, Some, IsSome, slice_get, None, Ok, Err, is_some, true, false};
 ghost use Rattle.std.specs.List.{list_any};
 ghost use Rattle.pm_model.specs.State.{State, Graph, root, opening, element_at, number_named, classes_in};
 ghost use Rattle.pm_model.specs.Sessions.{user_of};
@@ -20,6 +20,7 @@ ghost use Rattle.pm_model.specs.RightSet.{is_access_right};
 ghost use Rattle.pm_model.specs.Nameable.{IsNameable};
 ghost use Rattle.pm_model.specs.Formed.{Each, IsLive, IsUser, HasNext, IsWellFormed, IsNamed};
 ghost use Rattle.pm_model.specs.declared.elements.Element.{Element};
+ghost use Rattle.pm_model.specs.declared.obligations.Obligation.{Obligation};
 ghost use Rattle.pm_model.specs.declared.requests.Change.{Change};
 ghost use Rattle.pm_model.specs.declared.requests.Change.TheVariants.{CloseSession, Delete};
 ghost use Rattle.pm_model.specs.declared.replies.Refusal.TheVariants.{InUse};
@@ -28,7 +29,7 @@ ghost use Rattle.pm_model.specs.declared.requests.Entry.{Entry};
 ghost use Rattle.pm_model.specs.declared.requests.Request.{Request};
 ghost use Rattle.pm_model.specs.declared.sessions.Session.{Session};
 ghost use Rattle.pm_model.specs.declared.sessions.Process.{Process};
-ghost use Rattle.pm_laws.specs.Examples.{staffed, held, made, refused, refused_at_work, in_use, wards, ruled, unformed};
+ghost use Rattle.pm_laws.specs.Examples.{staffed, held, made, refused, refused_at_work, refused_at_watch, watching, watch, in_use, wards, ruled, unformed};
 ghost use Rattle.pm_laws.specs.Meaning.{IsJoined, IsPartialOrder, IsInClass, IsNumberOf, ActsFor, ActsForOne, IsGone, GiveNext, IsReached, TellsOnce};
 
 /// What a change makes of a well formed graph is well formed.
@@ -90,6 +91,12 @@ pub fn element_is_in_class()
 /// The one for whom a process acts is a live user.
 pub fn process_acts_for_user()
     ensures { (G : Graph) (p u : ℕ) → IsWellFormed G → user_of G.procs p ≡ Some u → IsUser G.elements u }
+{}
+
+/// The author of an obligation is a live user.
+#[tactic(auto, using(crate::proofs::Live::author_is))]
+pub fn author_is_user()
+    ensures { (G : Graph) (o : Obligation) → IsWellFormed G → Contains G.obligations o → IsUser G.elements o.author }
 {}
 
 /// Each process acts for one user, and that is a live user.
@@ -181,10 +188,11 @@ pub fn examples_made()
 {}
 
 /// Changes of small graphs, and why they are refused.
-#[tactic(auto, using(crate::proofs::Computed::examples_refused, crate::proofs::Computed::examples_refused_at_work, crate::proofs::Computed::examples_in_use))]
+#[tactic(auto, using(crate::proofs::Computed::examples_refused, crate::proofs::Computed::examples_refused_at_work, crate::proofs::Computed::examples_refused_at_watch, crate::proofs::Computed::examples_in_use))]
 pub fn examples_refused()
     ensures staffed { Each (λ row. effect staffed row.0 ≡ Err row.1) refused }
     ensures at_work { Each (λ row. effect held row.0 ≡ Err row.1) refused_at_work }
+    ensures at_watch { Each (λ row. effect (watching (watch ∷ [])) row.0 ≡ Err row.1) refused_at_watch }
     ensures in_use { Each (λ G. effect G (Delete 4) ≡ Err InUse) in_use }
 {}
 

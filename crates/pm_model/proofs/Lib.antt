@@ -1,3 +1,4 @@
+pub mod Bits
 pub mod ContainmentLaws
 pub mod Joined
 pub mod Walks

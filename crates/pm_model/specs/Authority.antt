@@ -9,6 +9,8 @@ use Rattle.pm_model.specs.Decision.{lacking, forbidding}
 use Rattle.pm_model.specs.Resolve.{resolve}
 use Rattle.pm_model.specs.declared.elements.Kind.{Kind}
 use Rattle.pm_model.specs.declared.elements.Kind.TheVariants.{User, Ua, Object, Oa, Pc}
+use Rattle.pm_model.specs.declared.events.Pattern.{Pattern}
+use Rattle.pm_model.specs.declared.obligations.Obligation.{Obligation}
 use Rattle.pm_model.specs.declared.prohibitions.Prohibition.{Prohibition}
 use Rattle.pm_model.specs.declared.prohibitions.Subject.{Subject}
 use Rattle.pm_model.specs.declared.prohibitions.Subject.TheVariants as subject
@@ -57,7 +59,10 @@ to_prohibit = 13
 abbrev pub to_prohibit_to : ℕ
 to_prohibit_to = 14
 
--- the policy class of the opening, on which what has no container is asked for
+abbrev pub to_oblige : ℕ
+to_oblige = 15
+
+-- the policy class of the opening, on which is asked for what has no container, and what waits for events on any target
 abbrev pub pm : ℕ
 pm = 0
 
@@ -71,6 +76,17 @@ abbrev pub prohibited_at : Graph → Option Prohibition → List (ℕ × ℕ)
 prohibited_at G None = []
 prohibited_at G (Some p) = (to_prohibit, subject_element G p.subject) ∷ []
 
+-- to wait for events of this pattern
+abbrev pub watched_at : Pattern → List (ℕ × ℕ)
+watched_at pattern = by_user pattern.user ++ (to_oblige, unwrap_or pattern.target pm) ∷ [] where
+  by_user : Option ℕ → List (ℕ × ℕ)
+  by_user None = []
+  by_user (Some x) = (to_oblige, x) ∷ []
+
+abbrev pub obliged_at : Option Obligation → List (ℕ × ℕ)
+obliged_at None = []
+obliged_at (Some o) = watched_at o.pattern
+
 -- each a right and an element
 abbrev pub required : Graph → Change → List (ℕ × ℕ)
 required G (change.Create id kind name None) = (right_to_create kind, pm) ∷ []
@@ -82,6 +98,8 @@ required G (change.Associate u r t) = (to_associate, u) ∷ (to_associate_to, t)
 required G (change.Dissociate u t) = (to_associate, u) ∷ (to_associate_to, t) ∷ []
 required G (change.Prohibit p) = (to_prohibit, subject_element G p.subject) ∷ map (λ a. (to_prohibit_to, a)) (p.inc ++ p.exc)
 required G (change.Lift i) = prohibited_at G (slice_get G.prohibitions i)
+required G (change.Oblige o) = watched_at o.pattern
+required G (change.Withdraw i) = obliged_at (slice_get G.obligations i)
 required G (change.DefineRight name) = (right_to_create Pc, pm) ∷ []
 required G _ = []
 

@@ -74,6 +74,9 @@ module _ (below : ℕ → ℕ → Bool) where
   abbrev pub rights_on : List Association → List Prohibition → List ℕ → ℕ → ℕ → ℕ
   rights_on associations prohibitions classes u e = from_bits (has_right_on associations prohibitions classes u e) 64
 
+abbrev pub is_grantee : ℕ → Grantee → Bool
+is_grantee ua g = g.ua == ua
+
 -- the associations of a user attribute
 abbrev pub of_grantee : Grantee → List Association
 of_grantee g = map (λ (h : Grant). let a : Association = record { ua = g.ua; rights = h.rights; at = h.at } in a) g.grants

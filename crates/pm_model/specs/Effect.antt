@@ -7,6 +7,7 @@ use Rattle.pm_model.specs.Results.{first_of, unless}
 use Rattle.pm_model.specs.State.{Graph, element, element_at, is_named, is_numbered}
 use Rattle.pm_model.specs.Containment.{contained}
 use Rattle.pm_model.specs.Prohibitions.{prohibit_checks, without_processes, names_element}
+use Rattle.pm_model.specs.Obligations.{oblige_checks, concerns}
 use Rattle.pm_model.specs.RightSet.{define_checks}
 use Rattle.pm_model.specs.declared.prohibitions.Prohibition.{Prohibition}
 use Rattle.pm_model.specs.declared.prohibitions.Subject.{Subject}
@@ -88,6 +89,16 @@ has_subject_kind es (subject.Process n) = true
 abbrev pub may_prohibit : List Element → Prohibition → Bool
 may_prohibit es p = has_subject_kind es p.subject && list_all (is_place es) p.inc && list_all (is_place es) p.exc
 
+abbrev pub is_actor_kind : Kind → Bool
+is_actor_kind User = true
+is_actor_kind Ua = true
+is_actor_kind _ = false
+
+-- the user of a pattern is a user or a user attribute, where one is given
+abbrev pub may_watch : List Element → Option ℕ → Bool
+may_watch es None = true
+may_watch es (Some n) = has_kind is_actor_kind (element_at es n)
+
 -- whether an element of this kind may be made there; without a container it is a class
 abbrev pub may_create : List Element → Kind → Option ℕ → Bool
 may_create es kind None = true
@@ -143,10 +154,11 @@ has_child pairs y = list_any (is_to y) pairs
 abbrev pub has_end : ℕ → Association → Bool
 has_end id a = a.ua == id || a.at == id
 
--- an association, a prohibition or a session names the element
+-- an association, a prohibition, an obligation or a session names the element
 abbrev pub is_in_use : Graph → ℕ → Bool
 is_in_use G id =
-    list_any (has_end id) G.associations || list_any (names_element id) G.prohibitions || list_any (is_session_of id) G.procs.sessions
+    list_any (has_end id) G.associations || list_any (names_element id) G.prohibitions
+    || list_any (concerns id) G.obligations || list_any (is_session_of id) G.procs.sessions
 
 -- ---- preconditions in order: when each isn't met, and what is answered then
 
@@ -192,6 +204,8 @@ checks G (change.StartProcess n) = start_checks G.procs n
 checks G (change.EndProcess n) = end_checks G.procs n
 checks G (change.Prohibit p) = (not (may_prohibit G.elements p), BadKinds) ∷ prohibit_checks G.prohibitions p
 checks G (change.Lift i) = []
+checks G (change.Oblige o) = (not (may_watch G.elements o.pattern.user), BadKinds) ∷ oblige_checks G.obligations o
+checks G (change.Withdraw i) = []
 checks G (change.DefineRight name) = define_checks G.rights name
 
 -- ---- effects
@@ -216,6 +230,8 @@ changed G (change.EndProcess n) =
     record G { procs = without_process n G.procs; prohibitions = without_processes (n ∷ []) G.prohibitions }
 changed G (change.Prohibit p) = record G { prohibitions = G.prohibitions ++ p ∷ [] }
 changed G (change.Lift i) = record G { prohibitions = remove G.prohibitions i }
+changed G (change.Oblige o) = record G { obligations = G.obligations ++ o ∷ [] }
+changed G (change.Withdraw i) = record G { obligations = remove G.obligations i }
 changed G (change.DefineRight name) = record G { rights = G.rights ++ name ∷ [] }
 
 abbrev pub refusal : Graph → Change → Option Refusal

@@ -1,6 +1,6 @@
 -- Well formed: what every reachable graph keeps. Source: the standard's constraints on assignments (of certain kinds,
 -- acyclic, each element leads to a policy class); names, limits and the opening elements are the project's own.
-use Rattle.std.specs.Prelude.{◌≡◌, ◌<◌, ◌^◌, ◌-◌, ℕ, ◌+◌, ◌&&◌, true, false, ◌≤◌, List, [], ◌∷◌, length, map, take, bytes_eq, IsSome, Some, None}
+use Rattle.std.specs.Prelude.{◌≡◌, ◌<◌, ◌^◌, ◌-◌, ℕ, ◌+◌, ◌&&◌, true, false, ◌≤◌, List, [], ◌∷◌, length, map, take, bytes_eq, IsSome, Option, Some, None, IfSome}
 use Rattle.std.specs.List.{list_any}
 use Rattle.pm_model.specs.Containment.{contained, Leads}
 use Rattle.pm_model.specs.RightSet.{opening_rights, max_rights}
@@ -9,13 +9,15 @@ use Rattle.pm_model.specs.State.{is_class, Graph, element_at, is_named, root, op
 use Rattle.pm_model.specs.Sessions.{Procs, session, process, session_at, process_at, max_sessions, max_processes}
 use Rattle.pm_model.specs.declared.sessions.Session.{Session}
 use Rattle.pm_model.specs.declared.sessions.Process.{Process}
-use Rattle.pm_model.specs.Effect.{both, has_kind, is_user_kind, may_assign, is_pair, may_associate, joins, max_elements, max_assignments, max_associations}
+use Rattle.pm_model.specs.Effect.{both, has_kind, is_user_kind, may_watch, may_assign, is_pair, may_associate, joins, max_elements, max_assignments, max_associations}
 use Rattle.pm_model.specs.Resolve.{unused}
 use Rattle.pm_model.specs.declared.elements.Kind.TheVariants.{Pc}
 use Rattle.pm_model.specs.declared.elements.Element.{Element}
 use Rattle.pm_model.specs.declared.requests.Change.{Change}
 use Rattle.pm_model.specs.declared.requests.Change.TheVariants as change
 use Rattle.pm_model.specs.Prohibitions.{is_called, has_empty_range, max_prohibitions}
+use Rattle.pm_model.specs.Obligations as obliged
+use Rattle.pm_model.specs.declared.obligations.Obligation.{Obligation}
 use Rattle.pm_model.specs.declared.prohibitions.Prohibition.{Prohibition}
 use Rattle.pm_model.specs.declared.prohibitions.Subject.{Subject}
 use Rattle.pm_model.specs.declared.prohibitions.Subject.TheVariants as subject
@@ -149,6 +151,24 @@ pub record AreProhibitions (es : List Element) (P : Procs) (rights : List (List 
   pub each : Each (IsProhibition es P rights) ps
   pub few : length ps ≤ max_prohibitions
 
+-- ---- obligations
+
+-- no two have one name
+abbrev pub AreOnceObliged : List Obligation → Type 0
+AreOnceObliged [] = Unit {0}
+AreOnceObliged (o ∷ os) = (list_any (obliged.is_called o.name) os ≡ false) × AreOnceObliged os
+
+-- the author is a live user, and what the pattern gives is live: a user or a user attribute, and any target
+pub record IsObligation (es : List Element) (o : Obligation) : Type 0 where
+  pub author : IsUser es o.author
+  pub user : may_watch es o.pattern.user ≡ true
+  pub target : IfSome o.pattern.target (IsLive es)
+
+pub record AreObligations (es : List Element) (os : List Obligation) : Type 0 where
+  pub once : AreOnceObliged os
+  pub each : Each (IsObligation es) os
+  pub few : length os ≤ obliged.max_obligations
+
 -- ---- rights
 
 -- no name stands twice
@@ -180,6 +200,7 @@ pub record IsWellFormed (G : Graph) : Type 0 where
   pub assigned : AreAssigned G.elements G.assigned
   pub associations : AreAssociations G.elements G.rights G.associations
   pub prohibitions : AreProhibitions G.elements G.procs G.rights G.prohibitions
+  pub obligations : AreObligations G.elements G.obligations
   pub rights : AreRights G.rights
   pub procs : AreProcs G.elements G.procs
   pub opening : HasOpening G.elements G.assigned
@@ -205,4 +226,6 @@ IsNamed G (change.EndProcess n) = Unit {0}
 IsNamed G (change.Prohibit p) =
     IsSubjectLive G.elements G.procs p.subject × Each (IsLive G.elements) p.inc × Each (IsLive G.elements) p.exc × AreNamed G.rights p.rights
 IsNamed G (change.Lift i) = i < length G.prohibitions
+IsNamed G (change.Oblige o) = IsUser G.elements o.author × IfSome o.pattern.user (IsLive G.elements) × IfSome o.pattern.target (IsLive G.elements)
+IsNamed G (change.Withdraw i) = i < length G.obligations
 IsNamed G (change.DefineRight name) = Unit {0}

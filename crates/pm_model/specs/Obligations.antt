@@ -1,10 +1,13 @@
 -- Obligations: which events they match, and their list. Source: the standard's obligations, each an author, an event
 -- pattern and a response; what a pattern can ask for, the names, their order and the limit are the project's own.
-use Rattle.std.specs.Prelude.{ℕ, Bool, true, false, ◌&&◌, ◌||◌, ◌==◌, List, filter, Option, None, Some, bytes_eq}
-use Rattle.std.specs.List.{position_from}
+use Rattle.std.specs.Prelude.{ℕ, Bool, true, false, ◌&&◌, ◌||◌, ◌==◌, nat_le, List, [], ◌∷◌, length, filter, Option, None, Some, bytes_eq}
+use Rattle.std.specs.List.{list_any, position_from}
 use Rattle.pm_model.specs.declared.events.Event.{Event}
 use Rattle.pm_model.specs.declared.events.Pattern.{Pattern}
 use Rattle.pm_model.specs.declared.obligations.Obligation.{Obligation}
+use Rattle.pm_model.specs.declared.replies.Refusal.{Refusal}
+use Rattle.pm_model.specs.declared.replies.Refusal.TheVariants.{NameTaken, Full}
+use Rattle.pm_model.specs.declared.replies.Table.TheVariants as table
 
 module _ (below : ℕ → ℕ → Bool) where
   -- the element is contained in the one that the pattern gives, where it gives one
@@ -33,10 +36,16 @@ is_called name o = bytes_eq name o.name
 abbrev pub place_called : List Obligation → List ℕ → Option ℕ
 place_called obligations name = position_from (is_called name) 0 obligations
 
+-- preconditions in order
+abbrev pub oblige_checks : List Obligation → Obligation → List (Bool × Refusal)
+oblige_checks obligations o =
+    (list_any (is_called o.name) obligations, NameTaken)
+    ∷ (nat_le max_obligations (length obligations), Full table.Obligations) ∷ []
+
 abbrev pub is_given : ℕ → Option ℕ → Bool
 is_given id None = false
 is_given id (Some n) = n == id
 
 -- the obligation has the element as its author or in its pattern
-abbrev pub names_element : ℕ → Obligation → Bool
-names_element id o = o.author == id || is_given id o.pattern.user || is_given id o.pattern.target
+abbrev pub concerns : ℕ → Obligation → Bool
+concerns id o = o.author == id || is_given id o.pattern.user || is_given id o.pattern.target

@@ -6,6 +6,7 @@ use Rattle.pm_model.specs.declared.elements.Kind.TheVariants.{User, Ua, Pc}
 use Rattle.pm_model.specs.declared.elements.Element.{Element}
 use Rattle.pm_model.specs.declared.rights.Association.{Association}
 use Rattle.pm_model.specs.declared.prohibitions.Prohibition.{Prohibition}
+use Rattle.pm_model.specs.declared.obligations.Obligation.{Obligation}
 use Rattle.pm_model.specs.RightSet.{opening_rights}
 use Rattle.pm_model.specs.Sessions.{Procs, opening_procs}
 
@@ -19,6 +20,8 @@ pub record Graph : Type 0 where
   pub associations : List Association
   -- the prohibitions, in order of creation
   pub prohibitions : List Prohibition
+  -- the obligations, in order of creation
+  pub obligations : List Obligation
   -- the names of the rights, by bit
   pub rights : List (List ℕ)
   -- the sessions and their processes
@@ -77,7 +80,15 @@ opening_assigned = (1, 0) ∷ (2, 1) ∷ []
 
 abbrev pub opening_graph : Graph
 opening_graph =
-    record { elements = opening_elements; assigned = opening_assigned; associations = []; prohibitions = []; rights = opening_rights; procs = opening_procs root }
+    record {
+      elements = opening_elements;
+      assigned = opening_assigned;
+      associations = [];
+      prohibitions = [];
+      obligations = [];
+      rights = opening_rights;
+      procs = opening_procs root;
+    }
 
 -- the state at the start: the class `pm`, its administrators, the user `root` among them, and a session and a process of it
 abbrev pub opening : State

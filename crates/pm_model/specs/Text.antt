@@ -12,7 +12,7 @@ use Rattle.pm_model.specs.declared.lines.BadLine.TheVariants.{TooLong, NotJson, 
 use Rattle.pm_model.specs.declared.replies.Refusal.{Refusal}
 use Rattle.pm_model.specs.declared.replies.Refusal.TheVariants as refusal
 use Rattle.pm_model.specs.declared.replies.Table.{Table}
-use Rattle.pm_model.specs.declared.replies.Table.TheVariants.{Elements, Assignments, Associations, Prohibitions, Sessions, Processes, Rights, History}
+use Rattle.pm_model.specs.declared.replies.Table.TheVariants.{Elements, Assignments, Associations, Prohibitions, Obligations, Sessions, Processes, Rights, History}
 use Rattle.pm_model.specs.declared.replies.Reply.{Reply}
 use Rattle.pm_model.specs.declared.replies.Reply.TheVariants.{Done, Granted, Bad, Ahead, Refused}
 use Rattle.pm_model.specs.declared.replies.Reason.{Reason}
@@ -25,6 +25,7 @@ table_word Elements = word.Elements
 table_word Assignments = word.Assignments
 table_word Associations = word.Associations
 table_word Prohibitions = word.Prohibitions
+table_word Obligations = word.Obligations
 table_word Sessions = word.Sessions
 table_word Processes = word.Processes
 table_word Rights = word.Rights

@@ -1,6 +1,7 @@
 //! What a policy is made of: elements, with their numbers, kinds and names.
 
-ghost use Rattle.std.specs.Prelude.{◌≡◌};
+ghost use Rattle.std.specs.Prelude.{◌≡◌, ℕ, ◌<◌, ◌+◌, ◌*◌, ◌==◌};
+ghost use Rattle.std.specs.Int.{bit_at};
 
 use crate::names::Name;
 use std::marker::Model;
@@ -25,6 +26,19 @@ impl ElementId {
         ensures { result ≡ self }
     {
         self.0
+    }
+
+    /// The set of this number alone, as far as it tells of the 64 numbers from 64 k on: bit i is the
+    /// number 64 k + i.
+    #[tactic(auto, using(crate::proofs::Bits::bit_here, crate::proofs::Bits::bit_elsewhere))]
+    pub fn bit_in(self, k: u32) -> u64
+        ensures { (i : ℕ) → i < 64 → (bit_at result i == 1) ≡ (self == 64 * k + i) }
+    {
+        if self.0 / 64 == k {
+            1 << (self.0 % 64)
+        } else {
+            0
+        }
     }
 }
 

@@ -1,7 +1,10 @@
 //! What a decision asks of a state, as traits.
 
-ghost use Rattle.std.specs.Prelude.{◌≡◌, ℕ, Bool, ◌<◌, ◌≤◌, List, length, slice_get, take, drop, Some, IsTrue};
+ghost use Rattle.std.specs.Prelude.{◌≡◌, ℕ, Bool, true, ◌<◌, ◌≤◌, ◌+◌, ◌*◌, ◌==◌, List, [], ◌∷◌, length, slice_get, take, drop, filter, Some, IsTrue, All};
+ghost use Rattle.std.specs.Int.{bit_at};
+ghost use Rattle.std.specs.List.{list_any};
 ghost use Rattle.pm_model.specs.Containment.{Relation, containers};
+ghost use Rattle.pm_model.specs.Decision.{is_grantee};
 ghost use Rattle.pm_model.specs.declared.rights.Grantee.{Grantee};
 ghost use Rattle.pm_model.specs.declared.prohibitions.Prohibition.{Prohibition};
 
@@ -21,6 +24,12 @@ pub trait Reach {
         requires x_live { IsTrue ((relation self.old).live x) }
         requires y_live { IsTrue ((relation self.old).live y) }
         ensures answer { result ≡ (relation self.old).below x y }
+        ensures same { relation self.new ≡ relation self.old };
+
+    /// Which of the numbers from 64 k on, 64 of them, x is contained in: bit i is the number 64 k + i.
+    fn above(&mut self, x: ElementId, k: u32) -> u64
+        requires x_live { IsTrue ((relation self.old).live x) }
+        ensures word { (i : ℕ) → i < 64 → (bit_at result i == 1) ≡ (relation self.old).below x (64 * k + i) }
         ensures same { relation self.new ≡ relation self.old };
 }
 
@@ -45,21 +54,27 @@ pub trait Parents {
         ensures answer { slice_get (containers (assigned self.now) x) i ≡ Some result };
 }
 
-/// The associations, those of a user attribute together.
+/// The associations, those of a user attribute together. Which user attributes have some is told by
+/// words of 64 numbers, so that a walk meets those alone that something else contains.
 pub trait Grants {
     /// The user attributes that have associations, with these.
     ghost grantees: { Self → List Grantee };
 
-    /// How many user attributes have associations.
-    fn grantee_count(&self) -> usize
-        ensures { result ≡ length (grantees self.now) };
+    /// How many words it takes to tell of each number whether it is a user attribute with associations:
+    /// of numbers below 16,384 no more than 256, and of any no more than numbers of 32 bits need.
+    fn holder_words(&self) -> u32
+        ensures within { All (λ (g : Grantee). g.ua < 64 * result) (grantees self.now) }
+        ensures most { result ≤ 67108864 };
 
-    /// The user attributes from a place below the count on that stand together in memory, each with
-    /// its associations. So a walk over all asks where they stand as seldom as can be.
-    fn grantees_from(&self, i: usize) -> &[Grantee]
-        requires { i < length (grantees self.now) }
-        ensures items { result.now ≡ take (length result.now) (drop i (grantees self.now)) }
-        ensures some { 0 < length result.now };
+    /// Which of the numbers from 64 k on, 64 of them, are user attributes with associations: bit i is
+    /// the number 64 k + i.
+    fn holders(&self, k: u32) -> u64
+        ensures { (i : ℕ) → i < 64 → (bit_at result i == 1) ≡ list_any (is_grantee (64 * k + i)) (grantees self.now) };
+
+    /// A user attribute that has associations, with these.
+    fn grantee(&self, ua: ElementId) -> &Grantee
+        requires { list_any (is_grantee ua) (grantees self.now) ≡ true }
+        ensures { filter (is_grantee ua) (grantees self.now) ≡ result.now ∷ [] };
 }
 
 /// The prohibitions, in order of creation: at most 4,096.

@@ -15,6 +15,8 @@ pub enum Table {
     Associations,
     /// 4,096 prohibitions.
     Prohibitions,
+    /// 1,024 obligations.
+    Obligations,
     /// 4,096 live sessions.
     Sessions,
     /// 16,384 live processes.
@@ -64,7 +66,7 @@ pub enum Refusal {
     Cycle,
     /// Something is assigned to the element.
     Occupied,
-    /// An association, a prohibition or a session names the element.
+    /// An association, a prohibition, an obligation or a session names the element.
     InUse,
     /// It is the element's only container.
     LastContainer,

@@ -7,6 +7,7 @@ use crate::lines::BadLine;
 use crate::lists::NameList;
 use crate::memory::Memory;
 use crate::names::Name;
+use crate::obligations::Obligation;
 use crate::prohibitions::{Mode, Prohibition, Subject};
 use crate::rights::Rights;
 
@@ -162,6 +163,13 @@ pub enum Change {
     },
     /// Take the prohibition away that stands at this place, from 0, in order of creation.
     Lift {
+        index: u32,
+    },
+    Oblige {
+        item: Obligation,
+    },
+    /// Take the obligation away that stands at this place, from 0, in order of creation.
+    Withdraw {
         index: u32,
     },
     DefineRight {

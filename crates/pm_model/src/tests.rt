@@ -94,3 +94,17 @@ fn a_request_is_copied(rt: HostRuntime) -> Result<(), Fail> {
     }
     Ok(())
 }
+
+#[test]
+fn a_number_stands_in_its_word_alone(rt: HostRuntime) {
+    let words = [
+        (0, 0, 1),
+        (63, 0, 1 << 63),
+        (64, 0, 0),
+        (64, 1, 1),
+        (16383, 255, 1 << 63),
+    ];
+    for (number, k, want) in words {
+        assert_eq!(rt; ElementId(number).bit_in(k), want);
+    }
+}

@@ -1,8 +1,8 @@
-//! The numbers of elements by name, in a list that copies share.
+//! The numbers of elements by name, in lists that copies share.
 #![tactic(auto)]
 
+mod entries;
 mod names;
-mod search;
 
 pub use names::Names;
 

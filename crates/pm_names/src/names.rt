@@ -2,22 +2,21 @@
 
 ghost use Rattle.std.specs.Prelude.{◌≡◌, [], true, false, None, Some, IfOk, OnOk, OnErr, IsOk, bytes_eq};
 ghost use Rattle.std.specs.Map.{lookup};
-ghost use Rattle.pm_names.specs.Rising.{Renames};
+ghost use Rattle.pm_names.specs.Named.{Renames};
 
-use crate::search::{is_named_at, number_here, place_of};
+use crate::entries::{Entry, hash_of, list_of, open_lists, place_in, tag_of};
 use pm_model::{ElementId, Memory, Name};
-use pm_pages::PageList;
+use pm_pages::ListRow;
 use std::alloc::Global;
 use std::marker::Model;
 
-/// How many names stand in a page.
-const ROOM: usize = 64;
-
-/// Names that lead to numbers. Contracts see the names with their numbers, and whether the list of
-/// them has shared no page since it was made: then no change but a new name takes memory.
+/// Names that lead to numbers. Contracts see the names with their numbers, and whether none of them has
+/// been shared since this was made: then no change but a new name takes memory.
+///
+/// A name stands in one of 512 lists, which its hash says. So it is found by a walk of one list.
 #[derive(Drop)]
 pub struct Names {
-    names: PageList<(Name, ElementId)>,
+    row: ListRow<Entry>,
 }
 
 impl Model for Names {
@@ -25,11 +24,11 @@ impl Model for Names {
 
     ghost Value = { Named };
 
-    ghost use Rattle.pm_names.specs.Rising.{Rise};
+    ghost use Rattle.pm_names.specs.Sharded.{named_of, IsKept};
 
-    ghost view = { λ n. record { items = n.names.items; alone = n.names.alone } };
+    ghost view = { named_of };
 
-    ghost invariant = { λ n. Rise n.names.items };
+    ghost invariant = { IsKept };
 }
 
 impl Names {
@@ -39,7 +38,7 @@ impl Names {
         ensures alone { result.alone ≡ true }
     {
         Names {
-            names: PageList::new(alloc, ROOM),
+            row: ListRow::new(alloc),
         }
     }
 
@@ -47,8 +46,16 @@ impl Names {
     pub fn find(&self, name: &Name) -> Option<ElementId>
         ensures { result ≡ lookup (bytes_eq name.now) self.now.items }
     {
-        let i = place_of(&self.names, name);
-        number_here(&self.names, i, name)
+        let hash = hash_of(name);
+        let k = list_of(hash);
+        if k >= self.row.len() {
+            return None;
+        }
+        let entries = self.row.at(k);
+        match place_in(entries, tag_of(hash), name) {
+            Some(i) => Some(entries[i].id),
+            None => None,
+        }
     }
 
     /// Lets a name that led nowhere lead to a number. On Memory all is as before.
@@ -58,8 +65,14 @@ impl Names {
         ensures err { OnErr result (self.new ≡ self.old) }
         ensures alone { self.new.alone ≡ self.old.alone }
     {
-        let i = place_of(&self.names, &name);
-        self.names.insert(i, (name, id))
+        open_lists(&mut self.row)?;
+        let hash = hash_of(&name);
+        let entry = Entry {
+            tag: tag_of(hash),
+            name,
+            id,
+        };
+        self.row.insert(list_of(hash), 0, entry)
     }
 
     /// Lets a name lead nowhere. On Memory all is as before.
@@ -69,20 +82,23 @@ impl Names {
         ensures sure { self.old.alone ≡ true → IsOk result }
         ensures alone { self.new.alone ≡ self.old.alone }
     {
-        let i = place_of(&self.names, name);
-        if is_named_at(&self.names, i, name) {
-            self.names.own_at(i)?;
-            let _gone = self.names.remove(i);
+        let hash = hash_of(name);
+        let k = list_of(hash);
+        if k >= self.row.len() {
+            return Ok(());
         }
-        Ok(())
+        match place_in(self.row.at(k), tag_of(hash), name) {
+            Some(i) => self.row.remove(k, i),
+            None => Ok(()),
+        }
     }
 
-    /// Lets copies share the names. On Memory some pages may be shared.
+    /// Lets copies share the names. On Memory some of them may be shared.
     pub fn share(&mut self) -> Result<(), Memory>
         ensures items { self.new.items ≡ self.old.items }
         ensures alone { self.new.alone ≡ false }
     {
-        self.names.share()
+        self.row.share()
     }
 
     /// The same names once more. What is shared is not copied.
@@ -91,7 +107,7 @@ impl Names {
         ensures alone { IfOk result (λ same. same.alone ≡ false) }
     {
         Ok(Names {
-            names: self.names.copy()?,
+            row: self.row.copy()?,
         })
     }
 }

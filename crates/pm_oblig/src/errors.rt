@@ -1,5 +1,9 @@
 //! The errors of the list.
 
+ghost use Rattle.std.specs.Prelude.{◌≡◌};
+ghost use Rattle.pm_oblig.specs.Told.{told};
+
+use pm_model::{ChangeError, Refusal, Table};
 use thiserror::Error;
 
 /// Why a call of the list was refused. The list is as before.
@@ -13,4 +17,16 @@ pub enum ObligError {
     Absent,
     #[error("out of memory")]
     Memory,
+}
+
+/// The error as a change tells it.
+pub fn change_error(error: ObligError) -> ChangeError
+    ensures { result ≡ told error }
+{
+    match error {
+        ObligError::NameTaken => ChangeError::Refused(Refusal::NameTaken),
+        ObligError::Full => ChangeError::Refused(Refusal::Full(Table::Obligations)),
+        ObligError::Absent => ChangeError::Refused(Refusal::Absent),
+        ObligError::Memory => ChangeError::Memory,
+    }
 }

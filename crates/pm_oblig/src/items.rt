@@ -1,10 +1,11 @@
-//! What is asked of one obligation, and a list of them copied.
+//! What is asked of one obligation, and a list of them sought through.
 
-ghost use Rattle.std.specs.Prelude.{◌≡◌, ◌||◌, ◌==◌, ◌<◌, IfOk, IfSome, length};
-ghost use Rattle.std.specs.List.{list_any};
-ghost use Rattle.pm_model.specs.Obligations.{is_called, place_called, is_given, names_element};
+ghost use Rattle.std.specs.Prelude.{◌≡◌, ◌||◌, ◌==◌, ◌<◌, true, Some, OnOk, OnErr, IfOk, IfSome, IsOk, length, slice_get};
+ghost use Rattle.std.specs.List.{list_any, remove};
+ghost use Rattle.pm_model.specs.Obligations.{is_called, place_called, is_given, concerns};
 
 use pm_model::{ElementId, Memory, Name, Obligation};
+use pm_pages::PageList;
 
 /// Whether the obligation has the name.
 fn is_called(item: &Obligation, name: Name) -> bool
@@ -13,19 +14,28 @@ fn is_called(item: &Obligation, name: Name) -> bool
     name == item.name
 }
 
-/// Whether some obligation has the name.
-pub(crate) fn has_name(items: &Vec<Obligation>, name: Name) -> bool
-    ensures { result ≡ list_any (is_called name) items.now.items }
+/// The place of the obligation of the name among those of a page.
+fn place_among(items: &[Obligation], name: Name) -> Option<usize>
+    ensures value { result ≡ place_called items.now name }
+    ensures below { IfSome result (λ i. i < length items.now) }
 {
-    items.iter().any(|item| is_called(item, name))
+    items.iter().position(|item| is_called(item, name))
 }
 
 /// The place of the obligation of the name.
-pub(crate) fn place(items: &Vec<Obligation>, name: Name) -> Option<usize>
+pub(crate) fn place(items: &PageList<Obligation>, name: Name) -> Option<usize>
     ensures value { result ≡ place_called items.now.items name }
     ensures below { IfSome result (λ i. i < length items.now.items) }
 {
-    items.iter().position(|item| is_called(item, name))
+    let mut begin = 0;
+    while begin < items.len() {
+        let run = items.run(begin);
+        if let Some(i) = place_among(run, name) {
+            return Some(begin + i);
+        }
+        begin += run.len();
+    }
+    None
 }
 
 /// Whether an element is given, and it is this one.
@@ -46,26 +56,43 @@ fn is_author_or_user(item: &Obligation, id: ElementId) -> bool
 }
 
 /// Whether the element is the author or in the pattern.
-fn names_element(item: &Obligation, id: ElementId) -> bool
-    ensures { result ≡ names_element id item.now }
+fn concerns(item: &Obligation, id: ElementId) -> bool
+    ensures { result ≡ concerns id item.now }
 {
     is_author_or_user(item, id) || is_given(item.pattern.target, id)
 }
 
-/// Whether some obligation names the element.
-pub(crate) fn is_named(items: &Vec<Obligation>, id: ElementId) -> bool
-    ensures { result ≡ list_any (names_element id) items.now.items }
+/// Whether some obligation of a page has the element as its author or in its pattern.
+fn is_named_among(items: &[Obligation], id: ElementId) -> bool
+    ensures { result ≡ list_any (concerns id) items.now }
 {
-    items.iter().any(|item| names_element(item, id))
+    items.iter().any(|item| concerns(item, id))
 }
 
-/// The same obligations once more.
-pub(crate) fn copy_all(items: &Vec<Obligation>) -> Result<Vec<Obligation>, Memory>
-    ensures { IfOk result (λ same. same.items ≡ items.now.items) }
+/// Whether some obligation has the element as its author or in its pattern.
+pub(crate) fn is_named(items: &PageList<Obligation>, id: ElementId) -> bool
+    ensures { result ≡ list_any (concerns id) items.now.items }
 {
-    let mut same = Vec::new(*items.allocator());
-    for item in items {
-        same.push(item.copy()?)?;
+    let mut begin = 0;
+    while begin < items.len() {
+        let run = items.run(begin);
+        if is_named_among(run, id) {
+            return true;
+        }
+        begin += run.len();
     }
-    Ok(same)
+    false
+}
+
+/// Takes the obligation at a place out.
+pub(crate) fn take(items: &mut PageList<Obligation>, i: usize) -> Result<Obligation, Memory>
+    requires { i < length items.old.items }
+    ensures item { IfOk result (λ item. slice_get items.old.items i ≡ Some item) }
+    ensures rest { OnOk result (items.new.items ≡ remove items.old.items i) }
+    ensures alone { items.new.alone ≡ items.old.alone }
+    ensures sure { items.old.alone ≡ true → IsOk result }
+    ensures err { OnErr result (items.new.items ≡ items.old.items) }
+{
+    items.own_at(i)?;
+    Ok(items.remove(i))
 }

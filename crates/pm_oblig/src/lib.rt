@@ -2,6 +2,7 @@
 #![tactic(auto)]
 
 mod binding;
+mod checks;
 mod errors;
 mod fresh;
 mod items;
@@ -9,7 +10,7 @@ mod laws;
 mod table;
 
 pub use binding::bind;
-pub use errors::ObligError;
+pub use errors::{ObligError, change_error};
 pub use laws::responses_computed;
 pub use table::Obligations;
 

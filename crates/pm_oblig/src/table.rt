@@ -1,34 +1,39 @@
 //! The list of obligations.
 
-ghost use Rattle.std.specs.Prelude.{◌≡◌, ◌≢◌, ◌<◌, ◌≤◌, [], ◌∷◌, ◌++◌, None, Some, OnOk, OnErr, IfOk, IfErr, IfSome, length, slice_get, option_map};
+ghost use Rattle.std.specs.Prelude.{◌≡◌, ◌≢◌, ◌<◌, ◌≤◌, [], ◌∷◌, ◌++◌, true, None, Some, OnOk, OnErr, IfOk, IfErr, IfSome, IsOk, length, slice_get, option_map};
 ghost use Rattle.std.specs.Option.{option_and_then, option_copied};
 ghost use Rattle.std.specs.List.{list_any, remove};
 ghost use Rattle.pm_model.specs.Results.{first_of};
-ghost use Rattle.pm_model.specs.Obligations.{max_obligations, place_called, names_element};
-ghost use Rattle.pm_oblig.specs.Checks.{add_checks, IsCause};
+ghost use Rattle.pm_model.specs.Effect.{IsCause};
+ghost use Rattle.pm_model.specs.Obligations.{max_obligations, is_called, place_called, oblige_checks, concerns};
+ghost use Rattle.pm_oblig.specs.Told.{told};
 
 use crate::errors::ObligError;
-use crate::items::{copy_all, has_name, is_named, place};
+use crate::items::{is_named, place, take};
 use pm_model::{ElementId, Memory, Name, Obligation};
+use pm_pages::PageList;
 use std::alloc::Global;
 use std::marker::Model;
 
-const MAX_OBLIGATIONS: usize = 1024;
+/// How many obligations stand in a page. A change makes one page its own, with its responses: so few.
+const ROOM: usize = 16;
 
-/// The obligations in order of creation: at most 1,024. Contracts see the list.
+/// The obligations in order of creation: at most 1,024. Contracts see the list, and whether it shares its pages with
+/// copies: where it stands alone, nothing is taken away at the cost of memory.
 #[derive(Drop)]
 pub struct Obligations {
-    items: Vec<Obligation>,
+    items: PageList<Obligation>,
 }
 
 impl Model for Obligations {
-    ghost use Rattle.std.specs.Prelude.{List, length, ◌≤◌};
+    ghost use Rattle.std.specs.Prelude.{length, ◌≤◌};
     ghost use Rattle.pm_model.specs.Obligations.{max_obligations};
     ghost use Rattle.pm_model.specs.declared.obligations.Obligation.{Obligation};
+    ghost use Rattle.pm_pages.specs.Paged.{Paged};
 
-    ghost Value = { List Obligation };
+    ghost Value = { Paged Obligation };
 
-    ghost view = { λ t. t.items.items };
+    ghost view = { λ t. t.items };
 
     ghost invariant = { λ t. length t.items.items ≤ max_obligations };
 }
@@ -36,16 +41,17 @@ impl Model for Obligations {
 impl Obligations {
     /// The list without obligations, which takes no memory.
     pub fn new(alloc: Global) -> Obligations
-        ensures { result ≡ [] }
+        ensures items { result.items ≡ [] }
+        ensures alone { result.alone ≡ true }
     {
         Obligations {
-            items: Vec::new(alloc),
+            items: PageList::new(alloc, ROOM),
         }
     }
 
     /// How many there are.
     pub fn len(&self) -> usize
-        ensures count { result ≡ length self.now }
+        ensures count { result ≡ length self.now.items }
         ensures few { result ≤ max_obligations }
     {
         self.items.len()
@@ -53,74 +59,65 @@ impl Obligations {
 
     /// The obligation at a place from 0; None exactly where there is none.
     pub fn get(&self, i: usize) -> Option<&Obligation>
-        ensures { option_copied result ≡ slice_get self.now i }
+        ensures { option_copied result ≡ slice_get self.now.items i }
     {
         self.items.get(i)
     }
 
     /// The obligation at a place that there is.
     pub fn at(&self, i: usize) -> &Obligation
-        requires { i < length self.now }
-        ensures { slice_get self.now i ≡ Some result.now }
+        requires { i < length self.now.items }
+        ensures { slice_get self.now.items i ≡ Some result.now }
     {
-        &self.items[i]
+        self.items.at(i)
     }
 
-    /// Whether an obligation of this name could be added: `NameTaken` where one has it, `Full` where there are 1,024,
-    /// in this order.
-    pub fn check_add(&self, name: Name) -> Result<(), ObligError>
-        ensures fits { OnOk result (first_of (add_checks self.now name) ≡ None) }
-        ensures refused { IfErr result (λ e. IsCause (first_of (add_checks self.now name)) e) }
-        ensures no_memory { IfErr result (λ e. e ≢ ObligError.Memory) }
-    {
-        if has_name(&self.items, name) {
-            return Err(ObligError::NameTaken);
-        }
-        if self.items.len() >= MAX_OBLIGATIONS {
-            return Err(ObligError::Full);
-        }
-        Ok(())
-    }
-
-    /// Puts an obligation behind the others. `NameTaken` and `Full` come where `check_add` says so, `Memory` else.
-    pub fn add(&mut self, item: Obligation) -> Result<(), ObligError>
-        ensures fits { OnOk result (first_of (add_checks self.old item.name) ≡ None) }
-        ensures ok { OnOk result (self.new ≡ self.old ++ item ∷ []) }
-        ensures refused { IfErr result (λ e. IsCause (first_of (add_checks self.old item.name)) e) }
+    /// Makes an obligation, behind the others. `NameTaken` and `Full` come where `check_oblige` says so, `Memory` else.
+    pub fn oblige(&mut self, item: Obligation) -> Result<(), ObligError>
+        ensures fits { OnOk result (first_of (oblige_checks self.old.items item) ≡ None) }
+        ensures ok { OnOk result (self.new.items ≡ self.old.items ++ item ∷ []) }
+        ensures alone { self.new.alone ≡ self.old.alone }
+        ensures refused { IfErr result (λ e. IsCause (first_of (oblige_checks self.old.items item)) (told e)) }
         ensures err { OnErr result (self.new ≡ self.old) }
     {
-        self.check_add(item.name)?;
+        self.check_oblige(&item)?;
         self.items.push(item).map_err(|_| ObligError::Memory)
     }
 
-    /// Takes the obligation of the name away and gives it. `Absent` comes where none has the name, and no other error.
-    /// It takes no memory, and the others keep their order.
-    pub fn remove(&mut self, name: Name) -> Result<Obligation, ObligError>
-        ensures stood { IfOk result (λ item. option_and_then (slice_get self.old) (place_called self.old name) ≡ Some item) }
-        ensures ok { OnOk result (Some self.new ≡ option_map (remove self.old) (place_called self.old name)) }
-        ensures absent { IfErr result (λ e. e ≡ ObligError.Absent) }
-        ensures none { OnErr result (place_called self.old name ≡ None) }
-        ensures err { OnErr result (self.new ≡ self.old) }
+    /// Takes the obligation of the name away and gives it. `Absent` comes where none has the name; the only other error
+    /// is `Memory`.
+    pub fn withdraw(&mut self, name: Name) -> Result<Obligation, ObligError>
+        ensures stood { IfOk result (λ item. option_and_then (slice_get self.old.items) (place_called self.old.items name) ≡ Some item) }
+        ensures ok { OnOk result (Some self.new.items ≡ option_map (remove self.old.items) (place_called self.old.items name)) }
+        ensures alone { self.new.alone ≡ self.old.alone }
+        ensures absent { IfErr result (λ e. e ≢ ObligError.Memory → e ≡ ObligError.Absent) }
+        ensures none { IfErr result (λ e. e ≡ ObligError.Absent → place_called self.old.items name ≡ None) }
+        ensures no_memory { self.old.alone ≡ true → IfErr result (λ e. e ≢ ObligError.Memory) }
+        ensures err { OnErr result (self.new.items ≡ self.old.items) }
     {
         match self.find(name) {
-            Some(index) => Ok(self.remove_at(index)),
+            Some(index) => self.withdraw_at(index).map_err(|_| ObligError::Memory),
             None => Err(ObligError::Absent),
         }
     }
 
-    /// Takes the obligation at a place from 0 away and gives it. The others keep their order.
-    pub fn remove_at(&mut self, index: u32) -> Obligation
-        requires { index < length self.old }
-        ensures item { slice_get self.old index ≡ Some result }
-        ensures rest { self.new ≡ remove self.old index }
+    /// Takes the obligation at a place from 0 away and gives it. The others keep their order. It takes no memory where
+    /// the list stands alone.
+    pub fn withdraw_at(&mut self, index: u32) -> Result<Obligation, Memory>
+        requires { index < length self.old.items }
+        ensures item { IfOk result (λ item. slice_get self.old.items index ≡ Some item) }
+        ensures rest { OnOk result (self.new.items ≡ remove self.old.items index) }
+        ensures alone { self.new.alone ≡ self.old.alone }
+        ensures sure { self.old.alone ≡ true → IsOk result }
+        ensures err { OnErr result (self.new.items ≡ self.old.items) }
     {
-        self.items.remove(index as usize)
+        take(&mut self.items, index as usize)
     }
 
     /// The place from 0 of the obligation of the name; None exactly where none has it. Looks at each.
     pub fn find(&self, name: Name) -> Option<u32>
-        ensures value { result ≡ place_called self.now name }
-        ensures below { IfSome result (λ i. i < length self.now) }
+        ensures value { result ≡ place_called self.now.items name }
+        ensures below { IfSome result (λ i. i < length self.now.items) }
     {
         let i = place(&self.items, name)?;
         Some(i as u32)
@@ -128,17 +125,32 @@ impl Obligations {
 
     /// Whether some obligation has the element as its author or in its pattern.
     pub fn names(&self, id: ElementId) -> bool
-        ensures { result ≡ list_any (names_element id) self.now }
+        ensures { result ≡ list_any (concerns id) self.now.items }
     {
         is_named(&self.items, id)
     }
 
-    /// The same list once more.
+    /// The same list once more. It shares the pages that are shared.
     pub fn copy(&self) -> Result<Obligations, Memory>
-        ensures { IfOk result (λ same. same ≡ self.now) }
+        ensures { IfOk result (λ same. same.items ≡ self.now.items) }
     {
         Ok(Obligations {
-            items: copy_all(&self.items)?,
+            items: self.items.copy()?,
         })
+    }
+
+    /// Lets copies share the obligations. It takes memory for each page that no copy shares. On Memory some pages may be
+    /// shared.
+    pub fn share(&mut self) -> Result<(), Memory>
+        ensures { self.new.items ≡ self.old.items }
+    {
+        self.items.share()
+    }
+
+    /// Whether some obligation has the name.
+    pub(crate) fn has_name(&self, name: Name) -> bool
+        ensures { result ≡ list_any (is_called name) self.now.items }
+    {
+        place(&self.items, name).is_some()
     }
 }

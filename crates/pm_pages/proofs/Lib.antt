@@ -1,4 +1,6 @@
-pub mod Spots
 pub mod Changed
+pub mod InRow
 pub mod Owning
 pub mod Passing
+pub mod Runs
+pub mod Spots

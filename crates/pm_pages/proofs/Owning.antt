@@ -103,7 +103,7 @@ module _ {T : Type 0} where
   spot-edited g j e (p ∷ ps) i zero s = (s.0, e p s.1)
   spot-edited g j e (p ∷ ps) i (suc k) s = (s.0, spot-edited g j e ps (i - length (items_of p)) k s.1)
 
-  page-edited : (g : Page T → Page T) → ((p : Page T) → is_own (g p) ≡ true) → (ps : List (Page T)) (k : ℕ) → k < length ps → own_page (edited g k ps) k ≡ true
+  pub page-edited : (g : Page T → Page T) → ((p : Page T) → is_own (g p) ≡ true) → (ps : List (Page T)) (k : ℕ) → k < length ps → own_page (edited g k ps) k ≡ true
   page-edited g e [] k h = absurd (omega (arith, h))
   page-edited g e (p ∷ ps) zero h = e p
   page-edited g e (p ∷ ps) (suc k) h = page-edited g e ps k (omega (arith, h))

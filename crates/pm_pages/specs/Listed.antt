@@ -63,6 +63,10 @@ module _ {X A : Type 0} (f : X → List A) where
   IsSpot (p ∷ ps) i zero j = (i ≡ j) × (j < length (f p))
   IsSpot (p ∷ ps) i (suc k) j = (length (f p) ≤ i) × IsSpot ps (i - length (f p)) k j
 
+-- list k of a row
+abbrev pub list_at : {T : Type 0} → List (List T) → ℕ → List T
+list_at lists k = piece (λ list. list) lists k
+
 module _ {X : Type 0} where
   -- the list with one item changed
   abbrev pub edited : (X → X) → ℕ → List X → List X

@@ -10,6 +10,12 @@ pub record Paged (T : Type 0) : Type 0 where
   -- whether the list has shared no page since it was made
   pub alone : Bool
 
+-- a row of lists as callers see it
+pub record Row (T : Type 0) : Type 0 where
+  pub lists : List (List T)
+  -- whether the row has shared no list since it was made
+  pub alone : Bool
+
 module _ {T : Type 0} where
   -- item i stands in a page of the list's own
   abbrev pub IsOwn : Paged T → ℕ → Type 0

@@ -3,7 +3,7 @@
 ghost use Rattle.std.specs.Prelude.{◌≡◌, IfOk};
 
 use pm_model::{
-    Association, ElementId, Grant, Grantee, Memory, Name, Process, Prohibition, Session,
+    Association, ElementId, Grant, Grantee, Memory, Name, Obligation, Process, Prohibition, Session,
 };
 
 /// What can be made once more, where there is memory for it.
@@ -72,6 +72,12 @@ impl CopyOf for Association {
 
 impl CopyOf for Prohibition {
     fn copied(&self) -> Result<Prohibition, Memory> {
+        self.copy()
+    }
+}
+
+impl CopyOf for Obligation {
+    fn copied(&self) -> Result<Obligation, Memory> {
         self.copy()
     }
 }

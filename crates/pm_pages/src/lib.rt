@@ -8,6 +8,7 @@ mod blocks;
 mod copies;
 mod items;
 mod list;
+mod list_row;
 mod pages;
 mod places;
 mod rows;
@@ -15,6 +16,7 @@ mod tested;
 
 pub use copies::CopyOf;
 pub use list::PageList;
+pub use list_row::ListRow;
 
 #[cfg(test)]
 mod tests;

@@ -44,7 +44,7 @@ impl<T> Model for PageList<T> {
 impl<T> PageList<T> {
     ghost use Rattle.pm_pages.specs.Lending.{LendsItem};
 
-    /// The empty list, which takes no memory. A page gets up to `room` items.
+    /// The empty list, which takes no memory. A page gets up to `room` items, best a power of two.
     pub fn new(alloc: Global, room: usize) -> Self
         ensures items { result.items ≡ [] }
         ensures alone { result.alone ≡ true }

@@ -29,13 +29,13 @@ fn page_by_halves(starts: &[usize], i: usize) -> usize
     low
 }
 
-/// The page of item i. Where all pages before are full, it is found at once.
+/// The page of item i. Where all pages before are full, and the room is a power of two, it is found at once.
 pub(crate) fn page_of(starts: &[usize], room: usize, i: usize) -> usize
     requires some { 0 < length starts.now }
     requires first { slice_index starts.now 0 ≤ i }
     ensures { IsStretch starts.now i result }
 {
-    let guess = i.checked_div(room).unwrap_or(0);
+    let guess = i.checked_shr(room.trailing_zeros()).unwrap_or(0);
     if is_page_of(starts, i, guess) {
         return guess;
     }

@@ -16,6 +16,11 @@ impl Reach for InTenth {
     fn contains(&mut self, x: ElementId, y: ElementId) -> bool {
         x == y || x.number() / 10 == y.number()
     }
+
+    #[tactic(auto, using(pm_model::proofs::Bits::bit_or_has))]
+    fn above(&mut self, x: ElementId, k: u32) -> u64 {
+        x.bit_in(k) | ElementId(x.number() / 10).bit_in(k)
+    }
 }
 
 /// An operation, and perhaps a user and a target.

@@ -1,6 +1,10 @@
 pub mod Bits
+pub mod Making
 pub mod Openings
 pub mod Orders
 pub mod Pages
 pub mod Passing
+pub mod Preparing
+pub mod Spanning
 pub mod Tables
+pub mod WholeWords

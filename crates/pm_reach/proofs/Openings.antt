@@ -3,7 +3,7 @@ use Rattle.std.proofs.Common.{◌≡◌, ℕ, ◌+◌, ◌<◌, ◌≤◌, Bool,
 use Rattle.std.proofs.lemmas.Bool.{cases_eq, cases_lt, eq-eqb, lt-ltb, le-ltb, false_from_ne_true, eqb-true, true≢false}
 use Rattle.pm_model.specs.Containment.{contained}
 use Rattle.pm_reach.specs.Rows.{has, below}
-use Rattle.pm_reach.specs.Changes.{TellContainment, Adds, Assigns, Removes}
+use Rattle.pm_reach.specs.Changes.{TellContainment, Adds, Creates, Assigns, Removes}
 use Rattle.pm_reach.proofs.Bits.{ne-eqb, eqb-turned}
 use Rattle.pm_reach.proofs.Orders.{contained-cons}
 use Rattle.pm_reach.proofs.Passing.{has_below}
@@ -15,7 +15,11 @@ assigned_more assigned old new x y live t a p q h =
     let was : has old p ≡ true = sym (a.live p) ∙ h in
     a.related p q ∙ rw (t p q was, t p x was, t y q live) (sym (contained-cons (x, y) assigned p q))
 
-stays : (b : Bool) → (b || false) ≡ b
+-- what has no row is contained in nothing
+pub below-none : (rows : List (List (Option (List ℕ)))) (x : ℕ) → has rows x ≡ false → (q : ℕ) → below rows x q ≡ false
+below-none rows x none q = false_from_ne_true (below rows x q) (λ h. true≢false (sym (has_below rows x q h) ∙ none))
+
+pub stays : (b : Bool) → (b || false) ≡ b
 stays true = refl
 stays false = refl
 
@@ -27,7 +31,17 @@ added_more assigned old new x none single t a p q h = elim (cases_eq p x) [
   | inr ne ↦ a.related p q ∙ rw (ne-eqb p x ne) (stays (below old p q) ∙ t p q (sym (a.live p ∙ rw (ne-eqb p x ne) refl) ∙ h))
 ] where
   lost : (q : ℕ) → below old x q ≡ false
-  lost q = false_from_ne_true (below old x q) (λ h. true≢false (sym (has_below old x q h) ∙ none))
+  lost q = below-none old x none q
+
+-- x was made, and assigned to y
+pub created_more : (assigned : List (ℕ × ℕ)) (old new : List (List (Option (List ℕ)))) (x y : ℕ) → has old x ≡ false → has old y ≡ true →
+    ((q : ℕ) → contained assigned x q ≡ (x == q)) → ((p : ℕ) → has old p ≡ true → contained assigned p x ≡ false) →
+    TellContainment assigned old → Creates x y old new → TellContainment ((x, y) ∷ assigned) new
+created_more assigned old new x y none live single apart t a p q h = elim (cases_eq p x) [
+  | inl e ↦ rw e (a.related x q ∙ rw (below-none old x none q, eq-eqb x x refl, t y q live, eqb-turned q x) (sym (contained-cons (x, y) assigned x q ∙ rw (single x, single q, eq-eqb x x refl) refl)))
+  | inr ne ↦ (let was : has old p ≡ true = sym (a.live p ∙ rw (ne-eqb p x ne) refl) ∙ h in
+      a.related p q ∙ rw (ne-eqb p x ne, t p q was) (sym (contained-cons (x, y) assigned p q ∙ rw (apart p was) refl)))
+]
 
 pub added-alone : (old new : List (List (Option (List ℕ)))) (x : ℕ) → has old x ≡ false → TellContainment [] old → Adds x old new → TellContainment [] new
 unfolding contained

@@ -6,11 +6,11 @@ use Rattle.pm_model.proofs.ContainmentLaws.{contained-itself, contained-more, co
 use Rattle.pm_reach.specs.Rows.{row_has, has, below}
 use Rattle.pm_reach.specs.Order.{IsOrder}
 use Rattle.pm_reach.specs.Passes.{Rewrites}
-use Rattle.pm_reach.specs.Changes.{TellContainment, Adds, Assigns, Deassigns, Removes}
+use Rattle.pm_reach.specs.Changes.{TellContainment, Adds, Creates, Assigns, Deassigns, Removes}
 use Rattle.pm_reach.proofs.Bits.{ne-eqb}
 use Rattle.pm_reach.proofs.Passing.{has_below}
 
-or-cases : (a b : Bool) → (a || b) ≡ true → (a ≡ true) ⊎ (b ≡ true)
+pub or-cases : (a b : Bool) → (a || b) ≡ true → (a ≡ true) ⊎ (b ≡ true)
 or-cases true b h = inl refl
 or-cases false b h = inr h
 
@@ -21,7 +21,7 @@ or-right : (a b : Bool) → b ≡ true → (a || b) ≡ true
 or-right true b h = refl
 or-right false b h = h
 
-and-both : (a b : Bool) → (a && b) ≡ true → (a ≡ true) × (b ≡ true)
+pub and-both : (a b : Bool) → (a && b) ≡ true → (a ≡ true) × (b ≡ true)
 and-both true b h = (refl, h)
 and-both false b h = absurd (false≢true h)
 
@@ -75,6 +75,81 @@ module _ (old new : List (List (Option (List ℕ)))) (x : ℕ) (none : has old x
     live = λ p q h. a.live q ∙ elim (add-cases p q h) [
       | inl l ↦ or-right (q == x) (has old q) (o.live p q l)
       | inr d ↦ or-left (q == x) (has old q) (eq-eqb q x d.1)
+    ];
+  }
+
+-- ---- x gets a row, with what the row of y has
+
+module _ (old new : List (List (Option (List ℕ)))) (x y : ℕ) (none : has old x ≡ false) (a : Creates x y old new) (o : IsOrder old) where
+  create-cases : (p q : ℕ) → below new p q ≡ true → (below old p q ≡ true) ⊎ ((p ≡ x) × ((q ≡ x) ⊎ (below old y q ≡ true)))
+  create-cases p q h = elim (or-cases (below old p q) (p == x && (q == x || below old y q)) (sym (a.related p q) ∙ h)) [
+    | inl l ↦ inl l
+    | inr r ↦ let b = and-both (p == x) (q == x || below old y q) r in inr (
+      eqb-true p x b.0,
+      elim (or-cases (q == x) (below old y q) b.1) [
+        | inl e ↦ inl (eqb-true q x e)
+        | inr k ↦ inr k
+      ],
+    )
+  ]
+
+  create-old : (p q : ℕ) → below old p q ≡ true → below new p q ≡ true
+  create-old p q h = a.related p q ∙ or-left (below old p q) (p == x && (q == x || below old y q)) h
+
+  create-new : (p q : ℕ) → p ≡ x → (q == x || below old y q) ≡ true → below new p q ≡ true
+  create-new p q d h = a.related p q ∙ or-right (below old p q) (p == x && (q == x || below old y q)) (and-made (p == x) (q == x || below old y q) (eq-eqb p x d) h)
+
+  create-self : (p q : ℕ) → p ≡ x → q ≡ x → below new p q ≡ true
+  create-self p q d e = create-new p q d (or-left (q == x) (below old y q) (eq-eqb q x e))
+
+  create-above : (p q : ℕ) → p ≡ x → below old y q ≡ true → below new p q ≡ true
+  create-above p q d h = create-new p q d (or-right (q == x) (below old y q) h)
+
+  -- nothing that has no row is in a row, or has something in its own
+  not-in : (p : ℕ) → below old p x ≡ true → ⊥
+  not-in p h = true≢false (sym (o.live p x h) ∙ none)
+
+  not-at : (p q : ℕ) → p ≡ x → below old p q ≡ true → ⊥
+  not-at p q d h = true≢false (sym (has_below old p q h) ∙ rw d none)
+
+  pub order-creates : IsOrder new
+  order-creates = record {
+    itself = λ p h. elim (or-cases (p == x) (has old p) (sym (a.live p) ∙ h)) [
+      | inl l ↦ create-self p p (eqb-true p x l) (eqb-true p x l)
+      | inr r ↦ create-old p p (o.itself p r)
+    ];
+    through = λ p q r h k. elim (create-cases p q h) [
+      | inl l ↦ elim (create-cases q r k) [
+        | inl m ↦ create-old p r (o.through p q r l m)
+        | inr d ↦ absurd (not-in p (rw (d.0) at l))
+      ]
+      | inr d ↦ elim (create-cases q r k) [
+        | inl m ↦ elim (d.1) [
+          | inl e ↦ absurd (not-at q r e m)
+          | inr l ↦ create-above p r d.0 (o.through y q r l m)
+        ]
+        | inr e ↦ elim (e.1) [
+          | inl f ↦ create-self p r d.0 f
+          | inr m ↦ create-above p r d.0 m
+        ]
+      ]
+    ];
+    alone = λ p q h k. elim (create-cases p q h) [
+      | inl l ↦ elim (create-cases q p k) [
+        | inl m ↦ o.alone p q l m
+        | inr d ↦ absurd (not-in p (rw (d.0) at l))
+      ]
+      | inr d ↦ elim (create-cases q p k) [
+        | inl m ↦ absurd (not-in q (rw (d.0) at m))
+        | inr e ↦ d.0 ∙ sym e.0
+      ]
+    ];
+    live = λ p q h. a.live q ∙ elim (create-cases p q h) [
+      | inl l ↦ or-right (q == x) (has old q) (o.live p q l)
+      | inr d ↦ elim (d.1) [
+        | inl e ↦ or-left (q == x) (has old q) (eq-eqb q x e)
+        | inr l ↦ or-right (q == x) (has old q) (o.live y q l)
+      ]
     ];
   }
 

@@ -1,10 +1,10 @@
 -- Pages of rows.
-use Rattle.std.proofs.Common.{◌≡◌, ◌≢◌, ℕ, zero, suc, ◌*◌, ◌/◌, ◌%◌, ◌<◌, ◌≤◌, true, List, [], ◌∷◌, ◌++◌, length, map, Option, Some, None, is_some, option_map, unwrap_or, slice_get, set, refl, sym, ap, ◌∙◌, arith, inl, inr}
+use Rattle.std.proofs.Common.{◌≡◌, ◌≢◌, ℕ, zero, suc, ◌*◌, ◌/◌, ◌%◌, ◌<◌, ◌≤◌, true, List, [], ◌∷◌, ◌++◌, length, map, Option, Some, None, is_some, option_map, unwrap_or, slice_get, set, get_or, Vec, vec_capacity, Global, refl, sym, ap, ◌∙◌, arith, inl, inr}
 use Rattle.std.proofs.lemmas.Bool.{true≢false, false≢true, cases_eq}
-use Rattle.std.proofs.lemmas.List.{map-set, length-append}
+use Rattle.std.proofs.lemmas.List.{map-set, length-append, length-map}
 use Rattle.std.proofs.lemmas.Option.{slice_get-map, slice_get_within}
 use Rattle.pm_reach.specs.Rows.{option_at, page_at, place_at, has}
-use Rattle.pm_reach.specs.Table.{words_of, shown, spare, page_rows, page_rooms, tabled, is_own, IsPushed, HasRoom, IsReady, StaysReady, Writes}
+use Rattle.pm_reach.specs.Table.{words_of, shown, spare, page_rows, page_rooms, page_places, tabled, is_own, IsPushed, HasRoom, Writes}
 use Rattle.pm_reach.specs.declared.held.Held.{Held}
 use Rattle.pm_reach.specs.declared.held.Held.TheVariants.{Own, Shared}
 use Rattle.pm_reach.specs.declared.page.Page.{Page}
@@ -111,7 +111,8 @@ swapped-others x s h y ne = elim (cases_eq (y / 64) (x / 64)) [
 ]
 
 pub swapped-stays : {old new : List (Held Page)} {k : ℕ} {page made : Held Page} → Swapped old new k page made →
-    ((i n : ℕ) → HasRoom (option_at (page_rooms page) i) n → HasRoom (option_at (page_rooms made) i) n) → StaysReady (tabled old) (tabled new)
+    ((i n : ℕ) → HasRoom (option_at (page_rooms page) i) n → HasRoom (option_at (page_rooms made) i) n) →
+    (y n : ℕ) → HasRoom (place_at (map page_rooms old) y) n → HasRoom (place_at (map page_rooms new) y) n
 swapped-stays {k = k} s h y n r = elim (cases_eq (y / 64) k) [
   | inl e ↦ rw (rooms-new s y e) (h (y % 64) n (rw (rooms-old s y e) at r))
   | inr d ↦ rw (rooms-other s y d) r
@@ -124,18 +125,18 @@ own-stays (Own p) page same i n r = rw (same p refl) r
 own-stays (Shared a) page same i n r = absurd r
 
 pub swapped-room : {old new : List (Held Page)} (x : ℕ) {page : Held Page} {made : Page} → Swapped old new (x / 64) page (Own made) →
-    (n : ℕ) → HasRoom (option_at (spare made.rows.items) (x % 64)) n → IsReady (tabled new) x n
+    (n : ℕ) → HasRoom (option_at (spare made.rows.items) (x % 64)) n → HasRoom (place_at (map page_rooms new) x) n
 swapped-room x s n h = rw (rooms-new s x refl) h
 
 -- a row that is ready stands in a page of the table's own
-pub ready-own : (pages : List (Held Page)) (x n : ℕ) → IsReady (tabled pages) x n → is_own (slice_get pages (x / 64)) ≡ true
+pub ready-own : (pages : List (Held Page)) (x n : ℕ) → HasRoom (place_at (map page_rooms pages) x) n → is_own (slice_get pages (x / 64)) ≡ true
 ready-own pages x n h = go (slice_get pages (x / 64)) (rw room_in at h) where
   go : (o : Option (Held Page)) → HasRoom (option_at (page_of page_rooms o) (x % 64)) n → is_own o ≡ true
   go (Some (Own p)) h = refl
   go (Some (Shared a)) h = absurd h
   go None h = absurd h
 
-pub ready-page : (pages : List (Held Page)) (x n : ℕ) (p : Page) → slice_get pages (x / 64) ≡ Some (Own p) → IsReady (tabled pages) x n →
+pub ready-page : (pages : List (Held Page)) (x n : ℕ) (p : Page) → slice_get pages (x / 64) ≡ Some (Own p) → HasRoom (place_at (map page_rooms pages) x) n →
     HasRoom (option_at (spare p.rows.items) (x % 64)) n
 ready-page pages x n p e h = rw (room_in pages x, e) at h
 
@@ -144,10 +145,10 @@ pub has-page : (pages : List (Held Page)) (x : ℕ) (p : Page) → slice_get pag
     is_some (option_at p.rows.items (x % 64)) ≡ true
 has-page pages x p e h = sym (some-shown p.rows.items (x % 64)) ∙ rw (place_in pages x, e) at h
 
-pub writes-page : {old new : List (Held Page)} (x : ℕ) {page made : Page} → Swapped old new (x / 64) (Own page) (Own made) →
+pub writes-page : (old new : Vec (Held Page) Global) (x : ℕ) {page made : Page} → Swapped old.items new.items (x / 64) (Own page) (Own made) →
     is_some (option_at page.rows.items (x % 64)) ≡ true → is_some (option_at made.rows.items (x % 64)) ≡ true →
     ((i : ℕ) → i ≢ x % 64 → option_at made.rows.items i ≡ option_at page.rows.items i) → Writes x (tabled old) (tabled new)
-writes-page {old} {new} x {page} {made} s before after same =
+writes-page old new x {page} {made} s before after same =
     let others = swapped-others x s (shown-others page.rows.items made.rows.items (x % 64) same) in
     record {
       others = others;
@@ -160,6 +161,39 @@ writes-page {old} {new} x {page} {made} s before after same =
         | inr d ↦ rw (rooms-other s y d) h
       ];
     }
+
+-- ---- places
+
+-- a page that has places is the table's own
+pub own-places : (pages : List (Held Page)) (k j : ℕ) → j < get_or (map page_places pages) k 0 → (p : Page) × (slice_get pages k ≡ Some (Own p)) × (j < vec_capacity p.rows)
+own-places [] zero j h = absurd (omega (arith, h))
+own-places [] (suc k) j h = absurd (omega (arith, h))
+own-places (Own p ∷ pages) zero j h = (p, refl, h)
+own-places (Shared a ∷ pages) zero j h = absurd (omega (arith, h))
+own-places (x ∷ pages) (suc k) j h = own-places pages k j h
+
+pub places-own : (pages : List (Held Page)) (k j : ℕ) (p : Page) → slice_get pages k ≡ Some (Own p) → j < vec_capacity p.rows → j < get_or (map page_places pages) k 0
+places-own [] k j p e h = absurd (true≢false (sym (ap is_some e)))
+places-own (x ∷ pages) zero j p e h = go x e where
+  go : (x : Held Page) → Some x ≡ Some (Own p) → j < page_places x
+  go x e = rw (ap (λ o. unwrap_or o x) e) h
+places-own (x ∷ pages) (suc k) j p e h = places-own pages k j p e h
+
+pub open-own : (pages : List (Held Page)) (x : ℕ) → x % 64 < get_or (map page_places pages) (x / 64) 0 → is_own (slice_get pages (x / 64)) ≡ true
+open-own pages x h = let o = own-places pages (x / 64) (x % 64) h in rw (o.1) refl
+
+-- the page taken out has the place
+pub open-page : (pages : List (Held Page)) (x : ℕ) (p : Page) → slice_get pages (x / 64) ≡ Some (Own p) → x % 64 < get_or (map page_places pages) (x / 64) 0 →
+    x % 64 < vec_capacity p.rows
+open-page pages x p e h =
+    let o = own-places pages (x / 64) (x % 64) h in
+    rw (same-page (sym e ∙ o.1)) (o.2) where
+      same-page : {p q : Page} → Some (Own p) ≡ Some (Own q) → p ≡ q
+      same-page {p} {q} e = ap (λ (o : Option (Held Page)). owned o) e where
+        owned : Option (Held Page) → Page
+        owned (Some (Own r)) = r
+        owned (Some (Shared a)) = p
+        owned None = p
 
 -- ---- a page behind the others
 
@@ -202,6 +236,9 @@ pushed-others {old} {new} x {p} s short none y ne = elim (cases_eq (y / 64) (x /
   past [] m l = refl
   past (p ∷ pages) zero l = absurd (omega arith)
   past (p ∷ pages) (suc m) l = past pages m (omega arith)
+
+pub short-pages : (pages : List (Held Page)) (k : ℕ) → length (map page_rows pages) ≤ k → length pages ≤ k
+short-pages pages k h = simp length-map at h
 
 pub found-row : (pages : List (Held Page)) (x : ℕ) (page : Held Page) → slice_get pages (x / 64) ≡ Some page →
     option_at (page_rows page) (x % 64) ≡ place_at (map page_rows pages) x

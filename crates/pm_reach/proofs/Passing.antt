@@ -3,7 +3,7 @@ use Rattle.std.proofs.Common.{◌≡◌, ◌≢◌, ℕ, zero, suc, ◌+◌, ◌
 use Rattle.std.proofs.lemmas.Bool.{cases_eq, true≢false, false≢true}
 use Rattle.pm_reach.specs.Rows.{place_at, row_has, has, below, count_of, most}
 use Rattle.pm_reach.specs.Table.{Table, IsReady, Writes}
-use Rattle.pm_reach.specs.Passes.{Rewrites, Passed}
+use Rattle.pm_reach.specs.Passes.{Rewrites, Passed, Spans}
 
 below-has : (o : Option (List ℕ)) (q : ℕ) → row_has o q ≡ true → is_some o ≡ true
 below-has None q h = absurd (false≢true h)
@@ -23,9 +23,11 @@ count-no : (test : ℕ → Bool) (n : ℕ) → test n ≡ false → count_of tes
 unfolding count_of
 count-no test n h = rw (add-one n, h) (omega arith)
 
-count-none : (test : ℕ → Bool) → count_of test 0 ≡ 0
+-- where none below n passes
+count-none : (test : ℕ → Bool) (n : ℕ) → ((k : ℕ) → k < n → test k ≡ false) → count_of test n ≡ 0
 unfolding count_of
-count-none test = refl
+count-none test zero h = refl
+count-none test (suc n) h = rw (h n (omega arith)) (omega (arith, count-none test n (λ k l. h k (omega arith))))
 
 -- where none from n on passes, a higher bound makes no difference
 count-past : (test : ℕ → Bool) (n m : ℕ) → ((k : ℕ) → n ≤ k → test k ≡ false) → count_of test (m + n) ≡ count_of test n
@@ -40,15 +42,21 @@ count-all test n m l h = let e : m ≡ (m - n) + n = omega arith in rw e (count-
 
 -- ---- passes
 
-pub Passed-none : {x n : ℕ} {made : ℕ → ℕ → Bool} {old : Table} → ((p : ℕ) → below old.rows p x ≡ true → IsReady old p n) → Passed x n made old old 0 0
-Passed-none {x} {old = old} ready = record {
-  within = λ p l h q. absurd (omega arith);
+pub Passed-none : {x n low high : ℕ} {made : ℕ → ℕ → Bool} {old : Table} → Spans old.rows x low high →
+    ((p : ℕ) → below old.rows p x ≡ true → IsReady old p n) → Passed x n made old old low 0
+Passed-none {x} {low = low} {old = old} spans ready = record {
+  within = λ p l h q. let from : low ≤ p = spans.from p h in absurd (omega arith);
   others = λ p h. refl;
   rest = λ p l. refl;
   live = λ p. refl;
   ready = λ p l h. ready p h;
-  count = sym (count-none (λ p. below old.rows p x));
-}
+  count = sym (count-none (λ p. below old.rows p x) low before);
+} where
+  before : (p : ℕ) → p < low → below old.rows p x ≡ false
+  before p l = go (below old.rows p x) refl where
+    go : (b : Bool) → below old.rows p x ≡ b → b ≡ false
+    go false e = refl
+    go true e = let from : low ≤ p = spans.from p e in absurd (omega arith)
 
 same_below : {o o' : Option (List ℕ)} → o ≡ o' → (q : ℕ) → row_has o q ≡ row_has o' q
 same_below e q = ap (λ o. row_has o q) e
@@ -89,9 +97,9 @@ Passed-no {x} {n} {made} {old} {now} {z} {written} a not =
     }
 
 pub Passed-all : {x n : ℕ} {made : ℕ → ℕ → Bool} {old now : Table} {z written : ℕ} → Passed x n made old now z written →
-    ((p : ℕ) → has old.rows p ≡ true → p < z) → z ≤ most → Rewrites x made old.rows now.rows written
+    ((p : ℕ) → below old.rows p x ≡ true → p < z) → z ≤ most → Rewrites x made old.rows now.rows written
 Passed-all {x} {n} {made} {old} {now} {z} {written} a short few = record {
-  within = λ p h q. a.within p (short p (has_below old.rows p x h)) h q;
+  within = λ p h q. a.within p (short p h) h q;
   others = a.others;
   live = a.live;
   count = a.count ∙ sym (count-all (λ p. below old.rows p x) z most few past);
@@ -100,4 +108,4 @@ Passed-all {x} {n} {made} {old} {now} {z} {written} a short few = record {
   past p l = go (below old.rows p x) refl where
     go : (b : Bool) → below old.rows p x ≡ b → b ≡ false
     go false e = refl
-    go true e = let s : p < z = short p (has_below old.rows p x e) in absurd (omega arith)
+    go true e = let s : p < z = short p e in absurd (omega arith)

@@ -1,7 +1,24 @@
 -- A pass over the rows, which writes the row of each element that is contained in x.
-use Rattle.std.specs.Prelude.{◌≡◌, ◌<◌, ◌≤◌, ℕ, Bool, true, false, List, Option}
-use Rattle.pm_reach.specs.Rows.{place_at, has, below, count_of, inside}
+use Rattle.std.specs.Prelude.{◌≡◌, ◌<◌, ◌≤◌, ◌==◌, ℕ, Bool, true, false, List, Option, None, Some}
+use Rattle.pm_reach.specs.Words.{in_row}
+use Rattle.pm_reach.specs.Rows.{place_at, has, below, count_of, inside, most}
 use Rattle.pm_reach.specs.Table.{Table, IsReady}
+
+-- in what isn't one of these numbers, nothing is contained but itself
+abbrev pub AreContainers : List (List (Option (List ℕ))) → List ℕ → Type 0
+AreContainers rows containers = (p y : ℕ) → below rows p y ≡ true → in_row containers y ≡ false → p ≡ y
+
+-- the number is the one that is given, where one is
+abbrev pub is_given : Option ℕ → ℕ → Bool
+is_given None q = false
+is_given (Some y) q = q == y
+
+-- the numbers of all that is contained in x are from `low` on and below `high`
+pub record Spans (rows : List (List (Option (List ℕ)))) (x low high : ℕ) : Type 0 where
+  pub from : (p : ℕ) → below rows p x ≡ true → low ≤ p
+  pub to : (p : ℕ) → below rows p x ≡ true → p < high
+  pub order : low ≤ high
+  pub few : high ≤ most
 
 -- these rows have what `made` says, the others are as they were, and so many were written
 pub record Rewrites (x : ℕ) (made : ℕ → ℕ → Bool) (old new : List (List (Option (List ℕ)))) (written : ℕ) : Type 0 where

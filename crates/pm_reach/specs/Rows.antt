@@ -3,11 +3,14 @@ use Rattle.std.specs.Prelude.{ℕ, Bool, false, ◌+◌, ◌/◌, ◌%◌, min, 
 use Rattle.std.proofs.Common.{zero, suc}
 use Rattle.pm_model.specs.Containment.{Relation}
 use Rattle.pm_reach.specs.Words.{in_row}
+use Rattle.pm_reach.specs.declared.step.Step.{Step}
 
--- the rows, in pages of 64 numbers, and how many were written since the opening
+-- the rows, in pages of 64 numbers, how many were written since the opening, and the step that is ready
+-- to be followed
 pub record Reached : Type 0 where
   pub rows : List (List (Option (List ℕ)))
   pub written : ℕ
+  pub ready : Option Step
 
 -- what a place has, where it has something
 abbrev pub option_at : {X : Type 0} → List (Option X) → ℕ → Option X

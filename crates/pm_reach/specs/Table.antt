@@ -1,6 +1,7 @@
 -- The table of rows as this crate sees it: the rows, and for each what room it has.
-use Rattle.std.specs.Prelude.{◌≡◌, ◌≢◌, ◌≤◌, ◌+◌, ℕ, Bool, true, false, List, [], length, map, Option, Some, None, option_map, vec_capacity, IsSomeAnd}
+use Rattle.std.specs.Prelude.{◌≡◌, ◌≢◌, ◌≤◌, ◌<◌, ◌+◌, ◌/◌, ◌%◌, ℕ, Bool, true, false, List, [], length, map, Option, Some, None, option_map, slice_index, Vec, vec_capacity, IsSomeAnd}
 use Rattle.std.specs.Arc.{arc_value}
+use Rattle.std.specs.declared.alloc.Global.{Global}
 use Rattle.pm_reach.specs.Rows.{page_at, place_at, has}
 use Rattle.pm_reach.specs.declared.held.Held.{Held}
 use Rattle.pm_reach.specs.declared.held.Held.TheVariants.{Own, Shared}
@@ -12,6 +13,10 @@ pub record Table : Type 0 where
   pub rows : List (List (Option (List ℕ)))
   -- how many words a row can have without memory being taken; none where it can't be written
   pub rooms : List (List (Option ℕ))
+  -- how many rows a page can have so; none where it can't be written
+  pub places : List ℕ
+  -- how many pages there can be so
+  pub pages : ℕ
 
 abbrev pub value_of : {T : Type 0} → Held T → T
 value_of (Own x) = x
@@ -46,6 +51,10 @@ abbrev pub page_rooms : Held Page → List (Option ℕ)
 page_rooms (Own p) = spare p.rows.items
 page_rooms (Shared a) = []
 
+abbrev pub page_places : Held Page → ℕ
+page_places (Own p) = vec_capacity p.rows
+page_places (Shared a) = 0
+
 abbrev pub is_own : Option (Held Page) → Bool
 is_own (Some (Own p)) = true
 is_own (Some (Shared a)) = false
@@ -57,11 +66,16 @@ pub record IsPushed (k : ℕ) (pushed : Page) (old new : List (Held Page)) : Typ
   pub page : page_at (map page_rows new) k ≡ shown pushed.rows.items
   pub others : (m : ℕ) → m ≢ k → page_at (map page_rows new) m ≡ page_at (map page_rows old) m
 
-abbrev pub tabled : List (Held Page) → Table
-tabled pages = record { rows = map page_rows pages; rooms = map page_rooms pages }
+abbrev pub tabled : Vec (Held Page) Global → Table
+tabled pages = record {
+  rows = map page_rows pages.items;
+  rooms = map page_rooms pages.items;
+  places = map page_places pages.items;
+  pages = vec_capacity pages;
+}
 
 abbrev pub table_of : Inside → Table
-table_of t = tabled t.pages.items
+table_of t = tabled t.pages
 
 -- the row can be written, with so many words
 abbrev pub HasRoom : Option ℕ → ℕ → Type 0
@@ -69,6 +83,10 @@ HasRoom room n = IsSomeAnd room (λ r. n ≤ r)
 
 abbrev pub IsReady : Table → ℕ → ℕ → Type 0
 IsReady t x n = HasRoom (place_at t.rooms x) n
+
+-- the page of x can be written, and has a place for the row of x
+abbrev pub IsOpen : Table → ℕ → Type 0
+IsOpen t x = x % 64 < slice_index t.places (x / 64)
 
 -- what was ready is ready still
 abbrev pub StaysReady : Table → Table → Type 0

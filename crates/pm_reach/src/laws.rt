@@ -3,7 +3,7 @@
 ghost use Rattle.std.specs.Prelude.{◌≡◌, ℕ, Bool, true, false, ◌==◌, ◌∷◌, List, Option};
 ghost use Rattle.pm_model.specs.Containment.{contained};
 ghost use Rattle.pm_reach.specs.Rows.{has};
-ghost use Rattle.pm_reach.specs.Changes.{TellContainment, Adds, Assigns, Removes};
+ghost use Rattle.pm_reach.specs.Changes.{TellContainment, Adds, Assigns, Creates, Removes};
 
 /// Where rows told the containment of some assignments, they tell that of these and a new one once they
 /// have followed it.
@@ -16,6 +16,12 @@ pub fn assigned_rows_tell()
 #[tactic(auto, using(crate::proofs::Openings::added_more))]
 pub fn added_rows_tell()
     ensures { (assigned : List (ℕ × ℕ)) (old new : List (List (Option (List ℕ)))) (x : ℕ) → has old x ≡ false → ((q : ℕ) → contained assigned x q ≡ (x == q)) → TellContainment assigned old → Adds x old new → TellContainment assigned new }
+{}
+
+/// So they do once they have followed that an element was made and assigned to another.
+#[tactic(auto, using(crate::proofs::Openings::created_more))]
+pub fn created_rows_tell()
+    ensures { (assigned : List (ℕ × ℕ)) (old new : List (List (Option (List ℕ)))) (x y : ℕ) → has old x ≡ false → has old y ≡ true → ((q : ℕ) → contained assigned x q ≡ (x == q)) → ((p : ℕ) → has old p ≡ true → contained assigned p x ≡ false) → TellContainment assigned old → Creates x y old new → TellContainment ((x, y) ∷ assigned) new }
 {}
 
 /// So they do once they have followed that an element was deleted.

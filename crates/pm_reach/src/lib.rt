@@ -1,19 +1,23 @@
 //! Containment by rows of bits, kept beside the graph: a row for each element, which has what the
-//! element is contained in. Each change of the graph is followed by a call, which takes the memory that
-//! it needs before it writes; so after want of memory the rows are as before.
+//! element is contained in. A change of the graph is prepared, which takes all the memory that it needs
+//! and changes no row, and then followed, which can't fail.
 #![tactic(auto)]
 
 mod changes;
+mod containers;
 mod held;
 mod laws;
 mod page;
+mod ready;
 mod rows;
+mod step;
 mod table;
 mod view;
 mod words;
 
-pub use laws::{added_rows_tell, assigned_rows_tell, removed_rows_tell};
+pub use laws::{added_rows_tell, assigned_rows_tell, created_rows_tell, removed_rows_tell};
 pub use rows::ReachRows;
+pub use step::Step;
 pub use view::RowsView;
 
 #[cfg(test)]

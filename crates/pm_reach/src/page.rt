@@ -38,18 +38,15 @@ pub(crate) fn find_row(rows: &[Option<Held<Row>>], j: usize) -> Option<&[u64]>
     }
 }
 
-/// Makes the page at least so long.
-fn grow(rows: &mut Vec<Option<Held<Row>>>, n: usize) -> Result<(), Memory>
-    ensures ok { OnOk result (n ≤ vec_len rows.new) }
+/// Makes the page at least so long, in the room that it has.
+fn lengthen(rows: &mut Vec<Option<Held<Row>>>, n: usize)
+    requires { n ≤ vec_capacity rows.old }
+    ensures long { n ≤ vec_len rows.new }
     ensures same { (i : ℕ) → option_at rows.new.items i ≡ option_at rows.old.items i }
-    ensures err { OnErr result (rows.new.items ≡ rows.old.items) }
 {
-    let more = n.saturating_sub(rows.len());
-    rows.reserve(more)?;
-    for _ in 0..more {
+    while rows.len() < n {
         rows.push_reserved(None);
     }
-    Ok(())
 }
 
 /// Takes a row out, to be put back.
@@ -172,20 +169,37 @@ fn take_own(rows: &mut Vec<Option<Held<Row>>>, j: usize) -> Row
     }
 }
 
-/// Gives a place a row.
-pub(crate) fn place_row(
-    rows: &mut Vec<Option<Held<Row>>>,
-    j: usize,
-    words: Vec<u64>,
-) -> Result<(), Memory>
+/// Makes room for a row at a place.
+pub(crate) fn reserve_place(rows: &mut Vec<Option<Held<Row>>>, j: usize) -> Result<(), Memory>
     requires { j < 64 }
-    ensures row { OnOk result (option_at (shown rows.new.items) j ≡ Some words.items) }
-    ensures others { (i : ℕ) → i ≢ j → option_at rows.new.items i ≡ option_at rows.old.items i }
-    ensures err { OnErr result (rows.new.items ≡ rows.old.items) }
+    ensures same { rows.new.items ≡ rows.old.items }
+    ensures room { OnOk result (j < vec_capacity rows.new) }
 {
-    grow(rows, j + 1)?;
-    put_row(rows, j, Held::Own(Row { words }));
+    let more = (j + 1).saturating_sub(rows.len());
+    rows.reserve(more)?;
     Ok(())
+}
+
+/// Gives a place a row, in the room that the page has.
+pub(crate) fn place_row(rows: &mut Vec<Option<Held<Row>>>, j: usize, words: Vec<u64>)
+    requires { j < vec_capacity rows.old }
+    ensures row { option_at (shown rows.new.items) j ≡ Some words.items }
+    ensures others { (i : ℕ) → i ≢ j → option_at rows.new.items i ≡ option_at rows.old.items i }
+{
+    lengthen(rows, j + 1);
+    put_row(rows, j, Held::Own(Row { words }));
+}
+
+/// A page with a row at a place, and no other.
+pub(crate) fn page_with(alloc: Global, j: usize, words: Vec<u64>) -> Result<Page, Memory>
+    requires { j < 64 }
+    ensures row { IfOk result (λ page. option_at (shown page.rows.items) j ≡ Some words.items) }
+    ensures alone { IfOk result (λ page. (i : ℕ) → i ≢ j → option_at page.rows.items i ≡ None) }
+{
+    let mut rows = Vec::new(alloc);
+    reserve_place(&mut rows, j)?;
+    place_row(&mut rows, j, words);
+    Ok(Page { rows })
 }
 
 /// Takes the row at a place away.

@@ -1,33 +1,53 @@
 //! The rows, with the number of those that were written.
 
-ghost use Rattle.std.specs.Prelude.{◌≡◌, ℕ, ◌<◌, ◌≤◌, ◌∷◌, [], true, false, is_some, nat_lt, IsTrue, IfOk, OnOk, OnErr};
+ghost use Rattle.std.specs.Prelude.{◌≡◌, ℕ, ◌<◌, ◌≤◌, ◌∷◌, [], true, false, Some, None, is_some, nat_lt, if◌then◌else◌, IsTrue, IsSome, IfOk, OnOk, OnErr, ◌+◌, ◌*◌, ◌==◌};
+ghost use Rattle.std.specs.Int.{bit_at};
 ghost use Rattle.pm_model.specs.State.{element_at, opening_elements, opening_assigned};
 ghost use Rattle.pm_reach.specs.Rows.{has, below, inside, most, counted};
 ghost use Rattle.pm_reach.specs.Order.{IsOrder};
-ghost use Rattle.pm_reach.specs.Changes.{TellContainment, Adds, Assigns, Deassigns, Removes};
+ghost use Rattle.pm_reach.specs.Changes.{TellContainment, CanFollow, Adds, Makes, Assigns, Deassigns, Removes};
+ghost use Rattle.pm_reach.specs.declared.step.Step.{Step};
 
-use crate::changes::{add, assign, deassign, remove};
+use crate::changes::{assign, deassign, make, remove};
+use crate::containers::Containers;
+use crate::ready::{Ready, make_ready, ready_deassign};
+use crate::step::Step;
 use crate::table::RowTable;
 use pm_model::{ElementId, Memory, Parents};
 use std::alloc::Global;
 use std::marker::Model;
 
-/// Containment, kept as a row of bits for each live element.
+/// Containment, kept as a row of bits for each live element. A change is made in two steps: `prepare`
+/// takes all memory that it needs and changes no row; the call that follows it can't fail.
 #[derive(Drop)]
 pub struct ReachRows {
     table: RowTable,
     written: u64,
+    ready: Option<Ready>,
+    containers: Containers,
 }
 
 impl Model for ReachRows {
+    ghost use Rattle.std.specs.Prelude.{option_map};
     ghost use Rattle.pm_reach.specs.Rows.{Reached};
     ghost use Rattle.pm_reach.specs.Order.{IsOrder};
+    ghost use Rattle.pm_reach.specs.Ready.{step_of, IsPrepared};
+    ghost use Rattle.pm_reach.specs.Passes.{AreContainers};
 
     ghost Value = { Reached };
 
-    ghost view = { λ a. record { rows = a.table.rows; written = a.written } };
+    ghost view = { λ a. record { rows = a.table.rows; written = a.written; ready = option_map step_of a.ready } };
 
-    ghost invariant = { λ a. IsOrder a.table.rows };
+    ghost invariant = { λ a. IsOrder a.table.rows × IsPrepared a.table a.ready × AreContainers a.table.rows a.containers };
+}
+
+/// Takes out what is ready.
+fn take(ready: &mut Option<Ready>) -> Ready
+    requires { IsSome ready.old }
+    ensures step { ready.old ≡ Some result }
+    ensures none { ready.new ≡ None }
+{
+    ready.take().unwrap()
 }
 
 impl ReachRows {
@@ -50,20 +70,23 @@ impl ReachRows {
         ensures live { IfOk result (λ r. (x : ℕ) → has r.rows x ≡ nat_lt x size) }
         ensures rows { IfOk result (λ r. TellContainment [] r.rows) }
     {
-        let mut rows = ReachRows::empty(alloc);
+        let mut rows = ReachRows::empty(alloc)?;
         for x in 0..size {
             rows.on_add(ElementId(x))?;
         }
         Ok(rows)
     }
 
-    fn empty(alloc: Global) -> ReachRows
-        ensures { result.rows ≡ [] }
+    fn empty(alloc: Global) -> Result<ReachRows, Memory>
+        ensures { IfOk result (λ r. r.rows ≡ []) }
     {
-        ReachRows {
+        let containers = Containers::new(alloc)?;
+        Ok(ReachRows {
             table: RowTable::new(alloc),
             written: 0,
-        }
+            ready: None,
+            containers,
+        })
     }
 
     /// The rows are a partial order.
@@ -82,34 +105,113 @@ impl ReachRows {
         self.table.has(x.number(), y.number())
     }
 
-    /// Lets the rows follow that x is made.
+    /// Which of the numbers from 64 k on, 64 of them, x is contained in: bit i is the number 64 k + i.
+    pub fn above(&self, x: ElementId, k: u32) -> u64
+        requires { has self.now.rows x ≡ true }
+        ensures { (i : ℕ) → i < 64 → (bit_at result i == 1) ≡ below self.now.rows x (64 * k + i) }
+    {
+        self.table.word(x.number(), k)
+    }
+
+    /// Takes all memory that following the step needs, and changes no row. What was ready before is let
+    /// go, also after want of memory.
+    pub fn prepare(&mut self, step: Step) -> Result<(), Memory>
+        requires possible { CanFollow self.old.rows step }
+        ensures rows { self.new.rows ≡ self.old.rows }
+        ensures written { self.new.written ≡ self.old.written }
+        ensures ready { OnOk result (self.new.ready ≡ Some step) }
+        ensures err { OnErr result (self.new.ready ≡ None) }
+    {
+        self.ready = None;
+        let ready = make_ready(&mut self.table, &self.containers, step)?;
+        self.ready = Some(ready);
+        Ok(())
+    }
+
+    /// Follows that x was made, and assigned to the container where there is one.
+    pub fn follow_make(&mut self, x: ElementId, into: Option<ElementId>)
+        requires { self.old.ready ≡ Some (Step.Make x into) }
+        ensures rows { Makes x into self.old.rows self.new.rows }
+        ensures written { self.new.written ≡ counted self.old.written (if is_some into then 2 else 1) }
+        ensures ready { self.new.ready ≡ None }
+    {
+        let container = &into;
+        let more = if container.is_some() { 2 } else { 1 };
+        self.table.bounded();
+        let ready = take(&mut self.ready);
+        make(&mut self.table, ready, x, *container);
+        self.containers.put_given(container);
+        self.written = self.written.saturating_add(more);
+    }
+
+    /// Follows that x was assigned to y.
+    pub fn follow_assign(&mut self, x: ElementId, y: ElementId)
+        requires { self.old.ready ≡ Some (Step.Assign x y) }
+        ensures rows { Assigns x y self.old.rows self.new.rows }
+        ensures written { self.new.written ≡ counted self.old.written (inside self.old.rows x) }
+        ensures ready { self.new.ready ≡ None }
+    {
+        self.table.bounded();
+        let ready = take(&mut self.ready);
+        let more = assign(&mut self.table, ready, x, y);
+        self.containers.put(y.number());
+        self.written = self.written.saturating_add(more);
+    }
+
+    /// Follows that x isn't assigned to y any more. The parents are those after this.
+    pub fn follow_deassign<P: Parents>(&mut self, x: ElementId, y: ElementId, parents: &P)
+        requires ready { self.old.ready ≡ Some (Step.Deassign x y) }
+        requires live { (z : ℕ) → has self.old.rows z ≡ true → IsTrue (P.live parents.now z) }
+        requires rows { (z : ℕ) → IsTrue (P.live parents.now z) → has self.old.rows z ≡ true }
+        requires was { TellContainment ((x, y) ∷ P.assigned parents.now) self.old.rows }
+        ensures rows { Deassigns x (P.assigned parents.now) self.old.rows self.new.rows }
+        ensures written { self.new.written ≡ counted self.old.written (inside self.old.rows x) }
+        ensures ready { self.new.ready ≡ None }
+    {
+        let ready = take(&mut self.ready);
+        let more = deassign(&mut self.table, ready, x, y, parents);
+        self.written = self.written.saturating_add(more);
+    }
+
+    /// Follows that x was deleted.
+    pub fn follow_remove(&mut self, x: ElementId)
+        requires { self.old.ready ≡ Some (Step.Remove x) }
+        ensures rows { Removes x self.old.rows self.new.rows }
+        ensures written { self.new.written ≡ self.old.written }
+        ensures ready { self.new.ready ≡ None }
+    {
+        let ready = take(&mut self.ready);
+        remove(&mut self.table, ready, x);
+    }
+
+    /// Prepares and follows that x is made.
     pub fn on_add(&mut self, x: ElementId) -> Result<(), Memory>
         requires none { has self.old.rows x ≡ false }
         requires few { x < most }
         ensures rows { OnOk result (Adds x self.old.rows self.new.rows) }
         ensures written { OnOk result (self.new.written ≡ counted self.old.written 1) }
-        ensures err { OnErr result (self.new ≡ self.old) }
+        ensures err { OnErr result ((self.new.rows ≡ self.old.rows) × (self.new.written ≡ self.old.written)) }
     {
-        add(&mut self.table, x.number())?;
-        self.written = self.written.saturating_add(1);
+        self.prepare(Step::Make { x, into: None })?;
+        self.follow_make(x, None);
         Ok(())
     }
 
-    /// Lets the rows follow that x is assigned to y.
+    /// Prepares and follows that x is assigned to y.
     pub fn on_assign(&mut self, x: ElementId, y: ElementId) -> Result<(), Memory>
         requires x { has self.old.rows x ≡ true }
         requires y { has self.old.rows y ≡ true }
         requires apart { below self.old.rows y x ≡ false }
         ensures rows { OnOk result (Assigns x y self.old.rows self.new.rows) }
         ensures written { OnOk result (self.new.written ≡ counted self.old.written (inside self.old.rows x)) }
-        ensures err { OnErr result (self.new ≡ self.old) }
+        ensures err { OnErr result ((self.new.rows ≡ self.old.rows) × (self.new.written ≡ self.old.written)) }
     {
-        let more = assign(&mut self.table, x.number(), y.number())?;
-        self.written = self.written.saturating_add(more);
+        self.prepare(Step::Assign { x, y })?;
+        self.follow_assign(x, y);
         Ok(())
     }
 
-    /// Lets the rows follow that x isn't assigned to y any more. The parents are those after this.
+    /// Prepares and follows that x isn't assigned to y any more. The parents are those after this.
     pub fn on_deassign<P: Parents>(
         &mut self,
         x: ElementId,
@@ -121,22 +223,26 @@ impl ReachRows {
         requires was { TellContainment ((x, y) ∷ P.assigned parents.now) self.old.rows }
         ensures rows { OnOk result (Deassigns x (P.assigned parents.now) self.old.rows self.new.rows) }
         ensures written { OnOk result (self.new.written ≡ counted self.old.written (inside self.old.rows x)) }
-        ensures err { OnErr result (self.new ≡ self.old) }
+        ensures err { OnErr result ((self.new.rows ≡ self.old.rows) × (self.new.written ≡ self.old.written)) }
     {
-        let more = deassign(&mut self.table, x.number(), y.number(), parents)?;
+        self.ready = None;
+        let ready = ready_deassign(&mut self.table, &self.containers, x, y)?;
+        let more = deassign(&mut self.table, ready, x, y, parents);
         self.written = self.written.saturating_add(more);
         Ok(())
     }
 
-    /// Lets the rows follow that x is deleted.
+    /// Prepares and follows that x is deleted.
     pub fn on_remove(&mut self, x: ElementId) -> Result<(), Memory>
         requires x { has self.old.rows x ≡ true }
         requires empty { (p : ℕ) → below self.old.rows p x ≡ true → p ≡ x }
         ensures rows { OnOk result (Removes x self.old.rows self.new.rows) }
         ensures written { OnOk result (self.new.written ≡ self.old.written) }
-        ensures err { OnErr result (self.new ≡ self.old) }
+        ensures err { OnErr result ((self.new.rows ≡ self.old.rows) × (self.new.written ≡ self.old.written)) }
     {
-        remove(&mut self.table, x.number())
+        self.prepare(Step::Remove { x })?;
+        self.follow_remove(x);
+        Ok(())
     }
 
     /// Whether x has a row.
@@ -146,7 +252,9 @@ impl ReachRows {
         self.table.has_row(x.number())
     }
 
-    /// How many rows were written since the opening, up to 2^64 - 1.
+    /// How many rows were written since the opening, up to 2^64 - 1: those that making elements, assigning
+    /// and taking assignments away write, one after another. So an element that is made in a container
+    /// counts two, though its row is written once.
     pub fn written(&self) -> u64
         ensures { result ≡ self.now.written }
     {
@@ -154,22 +262,31 @@ impl ReachRows {
     }
 
     /// Lets copies made from now on share all that is there: such a copy is one of pointers. It takes
-    /// memory for what wasn't shared before. What is shared is copied where it is to be written.
+    /// memory for what wasn't shared before. What is shared is copied where it is to be written, so
+    /// nothing is ready any more.
     pub fn share(&mut self) -> Result<(), Memory>
-        ensures { self.new ≡ self.old }
+        ensures rows { self.new.rows ≡ self.old.rows }
+        ensures written { self.new.written ≡ self.old.written }
+        ensures ready { self.new.ready ≡ None }
     {
+        self.ready = None;
         self.table.share()
     }
 
-    /// The same rows once more, with the same number of those written. Neither sees what the other
-    /// writes from then on.
+    /// The same rows once more, with the same number of those written, and nothing ready. Neither sees
+    /// what the other writes from then on.
     pub fn copy(&self) -> Result<ReachRows, Memory>
-        ensures { IfOk result (λ same. same ≡ self.now) }
+        ensures rows { IfOk result (λ same. same.rows ≡ self.now.rows) }
+        ensures written { IfOk result (λ same. same.written ≡ self.now.written) }
+        ensures ready { IfOk result (λ same. same.ready ≡ None) }
     {
         let table = self.table.copy()?;
+        let containers = self.containers.copy()?;
         Ok(ReachRows {
             table,
             written: self.written,
+            ready: None,
+            containers,
         })
     }
 }

@@ -1,17 +1,20 @@
 //! The table of rows, in pages of 64 numbers.
 
-ghost use Rattle.std.specs.Prelude.{◌≡◌, ◌≢◌, ℕ, ◌<◌, ◌≤◌, ◌+◌, ◌==◌, ◌||◌, ◌/◌, [], true, false, None, Some, length, map, slice_get, slice_set, vec_len, is_some, IfOk, IfErr, OnOk, OnErr};
+ghost use Rattle.std.specs.Prelude.{◌≡◌, ◌≢◌, ℕ, ◌<◌, ◌≤◌, ◌+◌, ◌==◌, ◌||◌, ◌/◌, [], true, false, None, Some, length, map, slice_get, slice_set, vec_len, vec_capacity, is_some, IfOk, IfErr, OnOk, OnErr, ◌*◌};
+ghost use Rattle.std.specs.Int.{bit_at};
 ghost use Rattle.std.specs.List.{list_any};
 ghost use Rattle.std.specs.Option.{option_copied};
 ghost use Rattle.pm_reach.specs.Words.{in_row};
 ghost use Rattle.pm_reach.specs.Rows.{place_at, has, below, most};
-ghost use Rattle.pm_reach.specs.Table.{shown, page_rows, tabled, is_own, IsPushed, IsReady, StaysReady, Writes};
+ghost use Rattle.pm_reach.specs.Table.{shown, page_rows, tabled, is_own, IsPushed, IsReady, IsOpen, StaysReady, Writes};
+ghost use Rattle.pm_reach.specs.NewRows.{new_words, Fits};
 ghost use Rattle.pm_reach.specs.declared.held.Held.{Held};
 ghost use Rattle.pm_reach.specs.declared.page.Page.{Page};
 
 use crate::held::{Held, read, shared};
 use crate::page::{
-    Page, clear_row, copy_rows, find_row, join_row, place_row, ready_row, rewrite_row, share_rows,
+    Page, clear_row, copy_rows, find_row, join_row, page_with, place_row, ready_row, reserve_place,
+    rewrite_row, share_rows,
 };
 use crate::words;
 use pm_model::Memory;
@@ -19,6 +22,15 @@ use std::alloc::Global;
 use std::marker::Model;
 use std::mem::replace;
 use std::sync::Arc;
+
+/// A row that can be given to a number without memory.
+#[derive(Drop)]
+pub(crate) enum NewRow {
+    /// Its words, where there is a page for it.
+    Within(Vec<u64>),
+    /// A page with this row alone, which goes behind the others.
+    Beyond(Page),
+}
 
 /// The rows, by number. Each page, and each row, is the table's own, or shared with copies of it.
 #[derive(Drop)]
@@ -113,7 +125,7 @@ fn own_page(pages: &mut Vec<Held<Page>>, k: usize) -> Result<(), Memory>
     ensures long { vec_len pages.new ≡ vec_len pages.old }
     ensures rows { map page_rows pages.new.items ≡ map page_rows pages.old.items }
     ensures own { OnOk result (is_own (slice_get pages.new.items k) ≡ true) }
-    ensures stays { StaysReady (tabled pages.old.items) (tabled pages.new.items) }
+    ensures stays { StaysReady (tabled pages.old) (tabled pages.new) }
 {
     let alloc = *pages.allocator();
     let held = take_held(pages, k);
@@ -148,8 +160,8 @@ fn ready_at(pages: &mut Vec<Held<Page>>, x: u32, n: usize) -> Result<(), Memory>
     requires { has (map page_rows pages.old.items) x ≡ true }
     ensures long { vec_len pages.new ≡ vec_len pages.old }
     ensures rows { map page_rows pages.new.items ≡ map page_rows pages.old.items }
-    ensures room { OnOk result (IsReady (tabled pages.new.items) x n) }
-    ensures stays { StaysReady (tabled pages.old.items) (tabled pages.new.items) }
+    ensures room { OnOk result (IsReady (tabled pages.new) x n) }
+    ensures stays { StaysReady (tabled pages.old) (tabled pages.new) }
 {
     let k = x as usize / 64;
     own_page(pages, k)?;
@@ -161,10 +173,10 @@ fn ready_at(pages: &mut Vec<Held<Page>>, x: u32, n: usize) -> Result<(), Memory>
 
 /// Puts what another row has into the row of x.
 fn join_at(pages: &mut Vec<Held<Page>>, x: u32, other: &[u64])
-    requires { IsReady (tabled pages.old.items) x (length other.now) }
+    requires { IsReady (tabled pages.old) x (length other.now) }
     ensures long { vec_len pages.new ≡ vec_len pages.old }
     ensures row { (q : ℕ) → below (map page_rows pages.new.items) x q ≡ (below (map page_rows pages.old.items) x q || in_row other.now q) }
-    ensures writes { Writes x (tabled pages.old.items) (tabled pages.new.items) }
+    ensures writes { Writes x (tabled pages.old) (tabled pages.new) }
 {
     let k = x as usize / 64;
     let mut page = take_page(pages, k);
@@ -174,11 +186,11 @@ fn join_at(pages: &mut Vec<Held<Page>>, x: u32, other: &[u64])
 
 /// Lets the row of x have these numbers, which it has already, and no others.
 fn rewrite_at(pages: &mut Vec<Held<Page>>, x: u32, numbers: &[u32])
-    requires ready { IsReady (tabled pages.old.items) x 0 }
+    requires ready { IsReady (tabled pages.old) x 0 }
     requires less { (q : ℕ) → list_any (λ n. n == q) numbers.now ≡ true → below (map page_rows pages.old.items) x q ≡ true }
     ensures long { vec_len pages.new ≡ vec_len pages.old }
     ensures row { (q : ℕ) → below (map page_rows pages.new.items) x q ≡ list_any (λ n. n == q) numbers.now }
-    ensures writes { Writes x (tabled pages.old.items) (tabled pages.new.items) }
+    ensures writes { Writes x (tabled pages.old) (tabled pages.new) }
 {
     let k = x as usize / 64;
     let mut page = take_page(pages, k);
@@ -186,87 +198,107 @@ fn rewrite_at(pages: &mut Vec<Held<Page>>, x: u32, numbers: &[u32])
     put_page(pages, k, Held::Own(page));
 }
 
-/// Gives x a row, in a page that is there.
-fn put_within(pages: &mut Vec<Held<Page>>, x: u32, words: Vec<u64>) -> Result<(), Memory>
+/// Makes the page of x the table's own, with a place for the row of x.
+fn open_at(pages: &mut Vec<Held<Page>>, x: u32) -> Result<(), Memory>
     requires { x / 64 < vec_len pages.old }
     ensures long { vec_len pages.new ≡ vec_len pages.old }
-    ensures row { OnOk result (place_at (map page_rows pages.new.items) x ≡ Some words.items) }
-    ensures others { (y : ℕ) → y ≢ x → place_at (map page_rows pages.new.items) y ≡ place_at (map page_rows pages.old.items) y }
-    ensures err { OnErr result (map page_rows pages.new.items ≡ map page_rows pages.old.items) }
+    ensures rows { map page_rows pages.new.items ≡ map page_rows pages.old.items }
+    ensures open { OnOk result (IsOpen (tabled pages.new) x) }
 {
     let k = x as usize / 64;
     own_page(pages, k)?;
     let mut page = take_page(pages, k);
-    let result = place_row(&mut page.rows, x as usize % 64, words);
+    let result = reserve_place(&mut page.rows, x as usize % 64);
     put_page(pages, k, Held::Own(page));
     result
 }
 
-/// Gives x a row, in a page behind the others.
-fn put_beyond(pages: &mut Vec<Held<Page>>, x: u32, words: Vec<u64>) -> Result<(), Memory>
-    requires few { x < most }
-    requires behind { vec_len pages.old ≤ x / 64 }
-    ensures long { vec_len pages.new ≤ x / 64 + 1 }
-    ensures row { OnOk result (place_at (map page_rows pages.new.items) x ≡ Some words.items) }
-    ensures others { OnOk result ((y : ℕ) → y ≢ x → place_at (map page_rows pages.new.items) y ≡ place_at (map page_rows pages.old.items) y) }
-    ensures err { OnErr result (pages.new.items ≡ pages.old.items) }
-{
-    let mut rows = Vec::new(*pages.allocator());
-    place_row(&mut rows, x as usize % 64, words)?;
-    push_page(pages, x as usize / 64, Page { rows })
-}
-
-/// Puts a page at a place behind the others.
-#[tactic(auto, using(crate::proofs::Pages::page_empty))]
-fn push_page(pages: &mut Vec<Held<Page>>, k: usize, page: Page) -> Result<(), Memory>
+/// Makes room for a page at a place behind the others.
+fn reserve_page(pages: &mut Vec<Held<Page>>, k: usize) -> Result<(), Memory>
     requires few { k < most }
     requires behind { vec_len pages.old ≤ k }
-    ensures ok { OnOk result (IsPushed k page pages.old.items pages.new.items) }
-    ensures err { OnErr result (pages.new.items ≡ pages.old.items) }
+    ensures same { pages.new.items ≡ pages.old.items }
+    ensures room { OnOk result (k < vec_capacity pages.new) }
 {
-    let alloc = *pages.allocator();
     let more = k - pages.len();
     pages.reserve(more + 1)?;
-    for _ in 0..more {
+    Ok(())
+}
+
+/// Makes a row for x, which the table can be given without memory.
+fn ready_new_at(pages: &mut Vec<Held<Page>>, x: u32, words: Vec<u64>) -> Result<NewRow, Memory>
+    requires { x < most }
+    ensures long { vec_len pages.new ≡ vec_len pages.old }
+    ensures rows { map page_rows pages.new.items ≡ map page_rows pages.old.items }
+    ensures fits { IfOk result (λ row. Fits (tabled pages.new) x row) }
+    ensures words { IfOk result (λ row. new_words x row ≡ Some words.items) }
+{
+    let k = x as usize / 64;
+    if k < pages.len() {
+        open_at(pages, x)?;
+        return Ok(NewRow::Within(words));
+    }
+    let page = page_with(*pages.allocator(), x as usize % 64, words)?;
+    reserve_page(pages, k)?;
+    Ok(NewRow::Beyond(page))
+}
+
+/// Gives x a row, in a page that is there.
+fn put_within(pages: &mut Vec<Held<Page>>, x: u32, words: Vec<u64>)
+    requires { IsOpen (tabled pages.old) x }
+    ensures long { vec_len pages.new ≡ vec_len pages.old }
+    ensures row { place_at (map page_rows pages.new.items) x ≡ Some words.items }
+    ensures others { (y : ℕ) → y ≢ x → place_at (map page_rows pages.new.items) y ≡ place_at (map page_rows pages.old.items) y }
+{
+    let k = x as usize / 64;
+    let mut page = take_page(pages, k);
+    place_row(&mut page.rows, x as usize % 64, words);
+    put_page(pages, k, Held::Own(page));
+}
+
+/// Puts a page at a place behind the others, in the room that there is.
+#[tactic(auto, using(crate::proofs::Pages::page_empty))]
+fn push_page(pages: &mut Vec<Held<Page>>, k: usize, page: Page)
+    requires room { k < vec_capacity pages.old }
+    requires behind { vec_len pages.old ≤ k }
+    ensures { IsPushed k page pages.old.items pages.new.items }
+{
+    let alloc = *pages.allocator();
+    while pages.len() < k {
         pages.push_reserved(Held::Own(Page {
             rows: Vec::new(alloc),
         }));
     }
     pages.push_reserved(Held::Own(page));
-    Ok(())
 }
 
-/// Gives x a row.
-fn put_at(pages: &mut Vec<Held<Page>>, x: u32, words: Vec<u64>) -> Result<(), Memory>
+/// Gives x a row, which fits.
+fn put_at(pages: &mut Vec<Held<Page>>, x: u32, row: NewRow)
     requires few { vec_len pages.old ≤ 256 }
     requires x { x < most }
+    requires fits { Fits (tabled pages.old) x row }
     ensures few { vec_len pages.new ≤ 256 }
-    ensures row { OnOk result (place_at (map page_rows pages.new.items) x ≡ Some words.items) }
-    ensures others { OnOk result ((y : ℕ) → y ≢ x → place_at (map page_rows pages.new.items) y ≡ place_at (map page_rows pages.old.items) y) }
-    ensures err { OnErr result (map page_rows pages.new.items ≡ map page_rows pages.old.items) }
+    ensures row { place_at (map page_rows pages.new.items) x ≡ new_words x row }
+    ensures others { (y : ℕ) → y ≢ x → place_at (map page_rows pages.new.items) y ≡ place_at (map page_rows pages.old.items) y }
 {
-    if (x as usize / 64) < pages.len() {
-        put_within(pages, x, words)?;
-        return Ok(());
+    match row {
+        NewRow::Within(words) => put_within(pages, x, words),
+        NewRow::Beyond(page) => push_page(pages, x as usize / 64, page),
     }
-    put_beyond(pages, x, words)?;
-    Ok(())
 }
 
 /// Takes the row of x away.
-fn clear_at(pages: &mut Vec<Held<Page>>, x: u32) -> Result<(), Memory>
-    requires { has (map page_rows pages.old.items) x ≡ true }
+fn clear_at(pages: &mut Vec<Held<Page>>, x: u32)
+    requires live { has (map page_rows pages.old.items) x ≡ true }
+    requires open { IsOpen (tabled pages.old) x }
     ensures long { vec_len pages.new ≡ vec_len pages.old }
-    ensures gone { OnOk result (place_at (map page_rows pages.new.items) x ≡ None) }
-    ensures others { OnOk result ((y : ℕ) → y ≢ x → place_at (map page_rows pages.new.items) y ≡ place_at (map page_rows pages.old.items) y) }
-    ensures err { OnErr result (map page_rows pages.new.items ≡ map page_rows pages.old.items) }
+    ensures gone { place_at (map page_rows pages.new.items) x ≡ None }
+    ensures others { (y : ℕ) → y ≢ x → place_at (map page_rows pages.new.items) y ≡ place_at (map page_rows pages.old.items) y }
 {
     let k = x as usize / 64;
-    own_page(pages, k)?;
     let mut page = take_page(pages, k);
     clear_row(&mut page.rows, x as usize % 64);
     put_page(pages, k, Held::Own(page));
-    Ok(())
 }
 
 fn copy_held(alloc: Global, page: &Held<Page>) -> Result<Held<Page>, Memory>
@@ -355,6 +387,13 @@ impl RowTable {
         self.pages.len() * 64
     }
 
+    /// What has a row is below the most that there can be.
+    pub(crate) fn bounded(&self)
+        ensures { (y : ℕ) → has self.now.rows y ≡ true → y < most }
+    {
+        let _len = self.len();
+    }
+
     /// Whether x has a row.
     pub(crate) fn has_row(&self, x: u32) -> bool
         ensures { result ≡ has self.now.rows x }
@@ -369,6 +408,16 @@ impl RowTable {
         match find(self.pages.as_slice(), x) {
             Some(row) => words::has(row, y),
             None => false,
+        }
+    }
+
+    /// Which of the numbers from 64 k on, 64 of them, are in the row of x: bit i is the number 64 k + i.
+    pub(crate) fn word(&self, x: u32, k: u32) -> u64
+        ensures { (i : ℕ) → i < 64 → (bit_at result i == 1) ≡ below self.now.rows x (64 * k + i) }
+    {
+        match find(self.pages.as_slice(), x) {
+            Some(row) => words::word(row, k),
+            None => 0,
         }
     }
 
@@ -402,34 +451,53 @@ impl RowTable {
         rewrite_at(&mut self.pages, x, numbers);
     }
 
-    /// Gives x a row.
-    pub(crate) fn put(&mut self, x: u32, words: Vec<u64>) -> Result<(), Memory>
+    /// Makes a row for x, which the table can be given without memory.
+    pub(crate) fn ready_new(&mut self, x: u32, words: Vec<u64>) -> Result<NewRow, Memory>
         requires { x < most }
-        ensures row { OnOk result (place_at self.new.rows x ≡ Some words.items) }
-        ensures others { OnOk result ((y : ℕ) → y ≢ x → place_at self.new.rows y ≡ place_at self.old.rows y) }
-        ensures err { OnErr result (self.new.rows ≡ self.old.rows) }
+        ensures rows { self.new.rows ≡ self.old.rows }
+        ensures fits { IfOk result (λ row. Fits self.new x row) }
+        ensures words { IfOk result (λ row. new_words x row ≡ Some words.items) }
     {
-        put_at(&mut self.pages, x, words)
+        ready_new_at(&mut self.pages, x, words)
+    }
+
+    /// Gives x a row, which fits.
+    pub(crate) fn put(&mut self, x: u32, row: NewRow)
+        requires few { x < most }
+        requires fits { Fits self.old x row }
+        ensures row { place_at self.new.rows x ≡ new_words x row }
+        ensures others { (y : ℕ) → y ≢ x → place_at self.new.rows y ≡ place_at self.old.rows y }
+    {
+        put_at(&mut self.pages, x, row);
+    }
+
+    /// Lets the row of x be taken away without memory.
+    pub(crate) fn open(&mut self, x: u32) -> Result<(), Memory>
+        requires { has self.old.rows x ≡ true }
+        ensures rows { self.new.rows ≡ self.old.rows }
+        ensures open { OnOk result (IsOpen self.new x) }
+    {
+        open_at(&mut self.pages, x)
     }
 
     /// Takes the row of x away.
-    pub(crate) fn clear(&mut self, x: u32) -> Result<(), Memory>
-        requires { has self.old.rows x ≡ true }
-        ensures gone { OnOk result (place_at self.new.rows x ≡ None) }
-        ensures others { OnOk result ((y : ℕ) → y ≢ x → place_at self.new.rows y ≡ place_at self.old.rows y) }
-        ensures err { OnErr result (self.new.rows ≡ self.old.rows) }
+    pub(crate) fn clear(&mut self, x: u32)
+        requires live { has self.old.rows x ≡ true }
+        requires open { IsOpen self.old x }
+        ensures gone { place_at self.new.rows x ≡ None }
+        ensures others { (y : ℕ) → y ≢ x → place_at self.new.rows y ≡ place_at self.old.rows y }
     {
-        clear_at(&mut self.pages, x)
+        clear_at(&mut self.pages, x);
     }
 
-    /// The words of the row of x once more.
-    pub(crate) fn copy_row(&self, x: u32) -> Result<Vec<u64>, Memory>
-        ensures { IfOk result (λ words. (q : ℕ) → in_row words.items q ≡ below self.now.rows x q) }
+    /// The words of the row of x; none where it has no row.
+    #[tactic(auto, using(crate::proofs::Bits::past_row))]
+    pub(crate) fn words(&self, x: u32) -> &[u64]
+        ensures { (q : ℕ) → in_row result.now q ≡ below self.now.rows x q }
     {
-        let alloc = self.alloc();
         match find(self.pages.as_slice(), x) {
-            Some(row) => Ok(Vec::from_slice(alloc, row)?),
-            None => Ok(Vec::new(alloc)),
+            Some(row) => row,
+            None => &[],
         }
     }
 

@@ -3,9 +3,9 @@
 ghost use Rattle.std.specs.Prelude.{◌≡◌, ℕ, ◌<◌, ◌∷◌, true, nat_lt, length, slice_get, Some};
 ghost use Rattle.pm_model.specs.Containment.{containers};
 ghost use Rattle.pm_reach.specs.Rows.{has};
-ghost use Rattle.pm_reach.specs.Changes.{TellContainment, Assigns};
+ghost use Rattle.pm_reach.specs.Changes.{TellContainment, Assigns, Deassigns};
 
-use crate::ReachRows;
+use crate::{ReachRows, Step};
 use pm_model::{ElementId, Parents, Reach};
 use pm_search::PathReach;
 use std::alloc::Global;
@@ -87,6 +87,17 @@ fn put_first(rt: &impl Abort, pairs: &mut Vec<(u8, u8)>, x: u8, y: u8)
     pairs.insert(0, (x, y)).expect(rt, "memory");
 }
 
+fn assign_in_steps(rt: &impl Abort, rows: &mut ReachRows, x: u8, y: u8)
+    ensures { Assigns x y rows.old.rows rows.new.rows }
+{
+    assert!(rt; rows.live(id(x)));
+    assert!(rt; rows.live(id(y)));
+    assert!(rt; !rows.contains(id(y), id(x)));
+    rows.prepare(Step::Assign { x: id(x), y: id(y) })
+        .expect(rt, "memory");
+    rows.follow_assign(id(x), id(y));
+}
+
 // The graph with x assigned to y, where that closes no cycle.
 fn assigned(rt: &impl Abort, graph: Graph, x: u8, y: u8) -> Graph {
     let Graph {
@@ -96,7 +107,7 @@ fn assigned(rt: &impl Abort, graph: Graph, x: u8, y: u8) -> Graph {
     if rows.contains(id(y), id(x)) {
         return Graph { pairs, rows };
     }
-    assign(rt, &mut rows, x, y);
+    assign_in_steps(rt, &mut rows, x, y);
     put_first(rt, &mut pairs, x, y);
     Graph { pairs, rows }
 }
@@ -111,9 +122,23 @@ fn deassigned(rt: &impl Abort, graph: Graph) -> Graph {
         return Graph { pairs, rows };
     }
     let (x, y) = pairs.remove(0);
-    rows.on_deassign(id(x), id(y), &Pairs(pairs.as_slice()))
-        .expect(rt, "memory");
+    deassign(rt, &mut rows, id(x), id(y), pairs.as_slice());
     Graph { pairs, rows }
+}
+
+fn deassign(rt: &impl Abort, rows: &mut ReachRows, x: ElementId, y: ElementId, left: &[(u8, u8)])
+    requires live { (z : ℕ) → has rows.old.rows z ≡ nat_lt z 256 }
+    requires x { x < 256 }
+    requires told { TellContainment ((x, y) ∷ left.now) rows.old.rows }
+    ensures { Deassigns x left.now rows.old.rows rows.new.rows }
+{
+    let parents = Pairs(left);
+    if left.len() % 2 == 0 {
+        rows.on_deassign(x, y, &parents).expect(rt, "memory");
+        return;
+    }
+    rows.prepare(Step::Deassign { x, y }).expect(rt, "memory");
+    rows.follow_deassign(x, y, &parents);
 }
 
 // Compares the answers for each pair of the first elements.
@@ -238,14 +263,54 @@ fn two_copies_go_apart(rt: HostRuntime) -> Result<(), Fail> {
     Ok(())
 }
 
+// Makes x in y, in one step.
+fn make_in(rt: &impl Abort, rows: &mut ReachRows, x: u8, y: u8) {
+    assert!(rt; !rows.live(id(x)));
+    assert!(rt; rows.live(id(y)));
+    rows.prepare(Step::Make {
+        x: id(x),
+        into: Some(id(y)),
+    })
+    .expect(rt, "memory");
+    rows.follow_make(id(x), Some(id(y)));
+}
+
+// Made in a container in one step, or made and assigned, the rows are the same, and so is their count.
+#[test]
+fn an_element_made_in_a_container(rt: HostRuntime) -> Result<(), Fail> {
+    let mut rows = ReachRows::opening(rt.alloc())?;
+    let mut other = rows.copy()?;
+    make_in(&rt, &mut rows, 200, 1);
+    add(&rt, &mut other, 200);
+    assign(&rt, &mut other, 200, 1);
+    assert_eq!(rt; (rows.written(), other.written()), (2, 2));
+    for (x, y, is_in) in [
+        (200, 200, true),
+        (200, 1, true),
+        (200, 0, true),
+        (200, 2, false),
+        (1, 200, false),
+        (2, 0, true),
+    ] {
+        assert_eq!(rt; holds(&rt, &rows, x, y), is_in, "{x} in {y}");
+        assert_eq!(rt; holds(&rt, &other, x, y), is_in, "{x} in {y} by two steps");
+    }
+    Ok(())
+}
+
 #[test]
 fn a_number_given_again_has_a_new_row(rt: HostRuntime) -> Result<(), Fail> {
     let mut rows = ReachRows::unassigned(rt.alloc(), 70)?;
-    rows.on_remove(id(66))?;
+    let mut other = rows.copy()?;
+    other.on_remove(id(66))?;
+    rows.prepare(Step::Remove { x: id(66) })?;
+    rows.follow_remove(id(66));
+    assert!(rt; !other.live(id(66)));
     assert!(rt; !rows.live(id(66)));
     assert_eq!(rt; rows.written(), 70);
-    add(&rt, &mut rows, 66);
+    make_in(&rt, &mut rows, 66, 65);
     assert!(rt; holds(&rt, &rows, 66, 66));
-    assert!(rt; !holds(&rt, &rows, 66, 65));
+    assert!(rt; holds(&rt, &rows, 66, 65));
+    assert!(rt; !holds(&rt, &rows, 66, 64));
     Ok(())
 }

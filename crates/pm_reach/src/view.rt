@@ -27,4 +27,8 @@ impl<'a> Reach for RowsView<'a> {
     fn contains(&mut self, x: ElementId, y: ElementId) -> bool {
         self.rows.contains(x, y)
     }
+
+    fn above(&mut self, x: ElementId, k: u32) -> u64 {
+        self.rows.above(x, k)
+    }
 }

@@ -2,11 +2,13 @@
 //! as it has to be.
 
 ghost use Rattle.std.specs.Prelude.{◌≡◌, ℕ, ◌<◌, ◌≤◌, ◌+◌, ◌*◌, ◌==◌, ◌||◌, true, false, length, slice_index, vec_len, vec_capacity, IfOk};
+ghost use Rattle.std.specs.Int.{bit_at};
 ghost use Rattle.std.specs.List.{list_any};
 ghost use Rattle.pm_reach.specs.Words.{in_row};
 
 use pm_model::Memory;
 use std::alloc::Global;
+use std::cmp::max;
 
 /// Whether the row has y.
 #[tactic(auto, using(crate::proofs::Bits::past_row))]
@@ -15,6 +17,15 @@ pub(crate) fn has(words: &[u64], y: u32) -> bool
 {
     let i = y as usize / 64;
     i < words.len() && (words[i] >> (y % 64)) & 1 == 1
+}
+
+/// Word k of the row: bit i says whether the row has 64 k + i.
+#[tactic(auto, using(crate::proofs::WholeWords::word_at, crate::proofs::WholeWords::word_past))]
+pub(crate) fn word(words: &[u64], k: u32) -> u64
+    ensures { (i : ℕ) → i < 64 → (bit_at result i == 1) ≡ in_row words.now (64 * k + i) }
+{
+    let k = k as usize;
+    if k < words.len() { words[k] } else { 0 }
 }
 
 /// Puts what the other row has into this one, which is at least as long.
@@ -28,7 +39,7 @@ fn unite(into: &mut [u64], from: &[u64])
 }
 
 /// Puts y into the row.
-fn set_bit(words: &mut [u64], y: u32)
+pub(crate) fn set_bit(words: &mut [u64], y: u32)
     requires { y < 64 * length words.old }
     ensures set { (q : ℕ) → in_row words.new q ≡ (q == y || in_row words.old q) }
     ensures long { length words.new ≡ length words.old }
@@ -109,13 +120,14 @@ pub(crate) fn rewrite(words: &mut Vec<u64>, numbers: &[u32])
     trim(words);
 }
 
-/// The row of y alone.
-pub(crate) fn row_of(alloc: Global, y: u32) -> Result<Vec<u64>, Memory>
-    ensures { IfOk result (λ words. (q : ℕ) → in_row words.items q ≡ (q == y)) }
+/// The row with y and what the other row has.
+pub(crate) fn row_with(alloc: Global, y: u32, other: &[u64]) -> Result<Vec<u64>, Memory>
+    ensures { IfOk result (λ words. (q : ℕ) → in_row words.items q ≡ (q == y || in_row other.now q)) }
 {
-    let size = y as usize / 64 + 1;
+    let size = max(y as usize / 64 + 1, other.len());
     let mut words = Vec::with_capacity(alloc, size)?;
     lengthen(&mut words, size);
+    unite(words.as_mut_slice(), other);
     set_bit(words.as_mut_slice(), y);
     Ok(words)
 }

@@ -22,10 +22,10 @@ pub fn matching<R: Reach>(
     event: &Event,
     reach: &mut R,
 ) -> Result<PositionList, Memory>
-    requires patterns { ArePatternsLive (R.relation reach.old) obligations.now }
+    requires patterns { ArePatternsLive (R.relation reach.old) obligations.now.items }
     requires event { IsEventLive (R.relation reach.old) event.now }
-    ensures places { IfOk result (λ places. StandAt obligations.now places (matching (R.relation reach.old).below obligations.now event.now)) }
-    ensures below { IfOk result (λ places. All (λ place. place < length obligations.now) places) }
+    ensures places { IfOk result (λ places. StandAt obligations.now.items places (matching (R.relation reach.old).below obligations.now.items event.now)) }
+    ensures below { IfOk result (λ places. All (λ place. place < length obligations.now.items) places) }
     ensures few { IfOk result (λ places. length places ≤ max_obligations) }
     ensures same { R.relation reach.new ≡ R.relation reach.old }
 {
@@ -41,9 +41,9 @@ pub fn matching<R: Reach>(
 
 /// Whether some obligation matches the event. It takes no memory, and ends at the first that does.
 pub fn any_matches<R: Reach>(obligations: &Obligations, event: &Event, reach: &mut R) -> bool
-    requires patterns { ArePatternsLive (R.relation reach.old) obligations.now }
+    requires patterns { ArePatternsLive (R.relation reach.old) obligations.now.items }
     requires event { IsEventLive (R.relation reach.old) event.now }
-    ensures answer { result ≡ nat_lt 0 (length (matching (R.relation reach.old).below obligations.now event.now)) }
+    ensures answer { result ≡ nat_lt 0 (length (matching (R.relation reach.old).below obligations.now.items event.now)) }
     ensures same { R.relation reach.new ≡ R.relation reach.old }
 {
     for i in 0..obligations.len() {

@@ -62,8 +62,8 @@ pub fn run_responses<A: Acts>(
     obligations: &Obligations,
     places: &PositionList,
 ) -> Result<(), RunError>
-    requires places { StandAt obligations.now places.now (A.occasion acts.old).obligations }
-    requires below { All (λ place. place < length obligations.now) places.now }
+    requires places { StandAt obligations.now.items places.now (A.occasion acts.old).obligations }
+    requires below { All (λ place. place < length obligations.now.items) places.now }
     requires few { length places.now ≤ max_obligations }
     ensures ok { OnOk result (responded (A.occasion acts.old) (A.graph acts.old) ≡ Ok (A.graph acts.new)) }
     ensures stopped { IfErr result (IsStop (responded (A.occasion acts.old) (A.graph acts.old))) }

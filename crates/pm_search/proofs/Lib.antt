@@ -1,2 +1,3 @@
+pub mod MarkWords
 pub mod MarkSteps
 pub mod SearchSteps

@@ -2,7 +2,8 @@
 //! costs what it visits: the elements that are marked, and their assignments.
 #![tactic(auto)]
 
-ghost use Rattle.std.specs.Prelude.{◌≡◌, ℕ, Bool, ◌+◌, ◌<◌, ◌≤◌, length, slice_index, slice_index_or, IsTrue, true, false, Contains, List, vec_len, IfOk, Some};
+ghost use Rattle.std.specs.Prelude.{◌≡◌, ℕ, Bool, ◌+◌, ◌<◌, ◌≤◌, ◌==◌, ◌^◌, length, slice_index, slice_index_or, IsTrue, true, false, Contains, List, vec_len, IfOk, Some};
+ghost use Rattle.std.specs.Int.{bit_at};
 ghost use Rattle.std.specs.Option.{ForSome};
 ghost use Rattle.pm_model.specs.Containment.{contained, containers};
 ghost use Rattle.pm_search.specs.Marks.{NoneMarked, MarksQueued, MarksAbove};
@@ -94,6 +95,27 @@ pub fn unmark(marks: &mut [bool], queue: &[u32], end: usize)
     }
 }
 
+/// Whether number n is marked.
+fn is_marked(marks: &[bool], n: usize) -> bool
+    ensures { result ≡ slice_index_or marks.now n false }
+{
+    n < marks.len() && marks[n]
+}
+
+/// Which of the numbers from `start` on, 64 of them, are marked: bit i is the number start + i.
+fn marked_word(marks: &[bool], start: usize) -> u64
+    requires { start < 2 ^ 63 }
+    ensures { (i : ℕ) → i < 64 → (bit_at result i == 1) ≡ slice_index_or marks.now (start + i) false }
+{
+    let mut word = 0;
+    for i in 0..64 {
+        if is_marked(marks, start + i) {
+            word |= 1 << i;
+        }
+    }
+    word
+}
+
 /// Containment by search. The marks are taken when it is made; a question takes no memory. A
 /// question from another element than the last one unsets the marks of that search and makes a new
 /// one, at the cost of what both visit; a question from the same element looks at one mark.
@@ -160,5 +182,10 @@ impl<'a, P: Parents> Reach for PathReach<'a, P> {
     fn contains(&mut self, x: ElementId, y: ElementId) -> bool {
         self.search_from(x);
         self.marks[y.number() as usize]
+    }
+
+    fn above(&mut self, x: ElementId, k: u32) -> u64 {
+        self.search_from(x);
+        marked_word(self.marks.as_slice(), k as usize * 64)
     }
 }

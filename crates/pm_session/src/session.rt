@@ -1,5 +1,5 @@
 //! What has come of a connection, and what is to be sent.
-ghost use Rattle.std.specs.Prelude.{◌≡◌, ◌≤◌, ◌<◌, ◌+◌, ◌++◌, [], length, take, drop, Some, None, IfOk, OnOk, OnErr, IsOk, option_map};
+ghost use Rattle.std.specs.Prelude.{◌≡◌, ◌↔◌, ◌≤◌, ◌<◌, ◌+◌, ◌++◌, [], length, take, drop, Some, None, IfOk, OnOk, OnErr, IsOk, IsTrue, option_map};
 ghost use Rattle.pm_model.specs.Lines.{shape, cut};
 ghost use Rattle.pm_model.specs.Nameable.{IsNameable};
 ghost use Rattle.pm_model.specs.Text.{text, bad_text};
@@ -11,7 +11,8 @@ use std::alloc::Global;
 use std::marker::Model;
 
 /// What has come and isn't answered yet, and what is to be sent. Contracts see the two lists of
-/// bytes. The input buffer of 16,384 bytes is taken once, whatever comes.
+/// bytes. The input buffer of 16,384 bytes is taken once, whatever comes, and so is the output's:
+/// it doesn't grow as long as replies are appended only where there is room for one.
 #[derive(Drop)]
 pub struct Session {
     waiting: Vec<u8>,
@@ -40,16 +41,16 @@ impl Session {
     ghost use Rattle.pm_session.specs.contracts.session.Session.{the_row};
     ghost use Rattle.pm_session.specs.Taken.{shown, first_event, LeavesRest};
 
-    /// Nothing waits, and 1,024 bytes of output have their room. Memory where there is none for the
-    /// two buffers.
-    pub fn new(alloc: Global) -> Result<Session, Memory>
-        ensures { IfOk result (λ s. s ≡ record { waiting = []; output = []; capacity = LONGEST_REPLY }) }
+    /// Nothing waits, and so many bytes of output have their room. Memory where there is none for
+    /// the two buffers.
+    pub fn new(alloc: Global, room: usize) -> Result<Session, Memory>
+        ensures { IfOk result (λ s. s ≡ record { waiting = []; output = []; capacity = room }) }
     {
         Ok(Session {
             waiting: Vec::with_capacity(alloc, ROOM)?,
             start: 0,
             tail: 0,
-            output: Vec::with_capacity(alloc, LONGEST_REPLY)?,
+            output: Vec::with_capacity(alloc, room)?,
         })
     }
 
@@ -92,6 +93,13 @@ impl Session {
             return Some(LineEvent::TooLong);
         }
         Some(LineEvent::Line(line))
+    }
+
+    /// Whether the output has the capacity for 1,024 bytes more, which any reply fits in.
+    pub fn has_room(&self) -> bool
+        ensures { IsTrue result ↔ length self.now.output + LONGEST_REPLY ≤ self.now.capacity }
+    {
+        self.output.capacity() - self.output.len() >= LONGEST_REPLY
     }
 
     /// Appends the line of the reply to the output. On Memory all is as before; where the output has

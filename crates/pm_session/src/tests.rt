@@ -44,7 +44,7 @@ fn push_pieces(rt: &impl Abort, session: &mut Session, bytes: &[u8]) {
 
 #[test]
 fn each_call_once(rt: HostRuntime) -> Result<(), Fail> {
-    let mut session = Session::new(rt.alloc())?;
+    let mut session = Session::new(rt.alloc(), 1024)?;
     assert!(rt; gives_none(&mut session));
     assert_eq!(rt; session.push(b"a\nb\r\n\nrest"), 10);
     assert!(rt; gives_line(&mut session, b"a"));
@@ -66,7 +66,7 @@ fn each_call_once(rt: HostRuntime) -> Result<(), Fail> {
 
 #[test]
 fn output_is_sent_part_by_part(rt: HostRuntime) -> Result<(), Fail> {
-    let mut session = Session::new(rt.alloc())?;
+    let mut session = Session::new(rt.alloc(), 1024)?;
     session.bad(None, 4, &BadLine::NotJson)?;
     for (n, left) in [
         (0, b"{\"no\":\"not_json\",\"v\":4}\n".as_slice()),
@@ -86,13 +86,25 @@ fn output_is_sent_part_by_part(rt: HostRuntime) -> Result<(), Fail> {
     Ok(())
 }
 
+// The line of a bad form has 24 bytes here.
+#[test]
+fn there_is_room_for_a_reply_up_to_the_last_1024_bytes(rt: HostRuntime) -> Result<(), Fail> {
+    for (room, has_room) in [(1047, false), (1048, true)] {
+        let mut session = Session::new(rt.alloc(), room)?;
+        assert!(rt; session.has_room());
+        session.bad(None, 4, &BadLine::NotJson)?;
+        assert_eq!(rt; session.has_room(), has_room, "of {room}");
+    }
+    Ok(())
+}
+
 fn long_line(alloc: Global, length: usize) -> Result<Vec<u8>, AllocError> {
     vec![in alloc; b'x'; length]
 }
 
 #[test]
 fn a_line_has_at_most_8192_bytes(rt: HostRuntime) -> Result<(), Fail> {
-    let mut session = Session::new(rt.alloc())?;
+    let mut session = Session::new(rt.alloc(), 1024)?;
     for (length, is_line) in [(8191, true), (8192, true), (8193, false)] {
         let line = long_line(rt.alloc(), length)?;
         push_pieces(&rt, &mut session, &line);
@@ -112,7 +124,7 @@ fn a_line_has_at_most_8192_bytes(rt: HostRuntime) -> Result<(), Fail> {
 #[test]
 fn a_line_without_end_takes_each_piece(rt: HostRuntime) -> Result<(), Fail> {
     let piece = long_line(rt.alloc(), 4096)?;
-    let mut session = Session::new(rt.alloc())?;
+    let mut session = Session::new(rt.alloc(), 1024)?;
     for _ in 0..10 {
         assert_eq!(rt; session.push(&piece), 4096);
         assert!(rt; gives_none(&mut session));
@@ -145,7 +157,7 @@ fn drain(session: &mut Session, seen: &mut Vec<u8>) -> Result<(), Fail> {
 fn a_cut_anywhere_makes_no_difference(rt: HostRuntime) -> Result<(), Fail> {
     let bytes = b"one\n\r\n\ntwo three\nrest";
     for cut in 0..=bytes.len() {
-        let mut session = Session::new(rt.alloc())?;
+        let mut session = Session::new(rt.alloc(), 1024)?;
         let mut seen = Vec::new(rt.alloc());
         push_pieces(&rt, &mut session, &bytes[..cut]);
         drain(&mut session, &mut seen)?;

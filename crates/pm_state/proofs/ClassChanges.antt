@@ -37,6 +37,8 @@ made-classes G (change.StartProcess n) f = refl
 made-classes G (change.EndProcess n) f = refl
 made-classes G (change.Prohibit p) f = refl
 made-classes G (change.Lift i) f = refl
+made-classes G (change.Oblige o) f = refl
+made-classes G (change.Withdraw i) f = refl
 made-classes G (change.DefineRight name) f = refl
 
 -- the list that a change leaves is the classes of the new graph

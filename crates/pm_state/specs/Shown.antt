@@ -6,10 +6,11 @@ use Rattle.pm_state.specs.declared.tables.Tables.{Tables}
 abbrev pub graph_of : Tables → Graph
 graph_of t =
     record {
-      elements = t.elements.elements;
-      assigned = t.elements.assigned;
+      elements = t.diagram.elements;
+      assigned = t.diagram.assigned;
       associations = associations_of t.assoc.grantees;
       prohibitions = t.deny.items;
+      obligations = t.oblig.items;
       rights = t.rights;
       procs = t.procs.procs;
     }

@@ -22,11 +22,12 @@ fn may_associate(ua: Kind, at: Kind) -> bool
 impl Tables {
     // Whether the kinds of two live elements allow an association.
     fn both_may_associate(&self, ua: ElementId, at: ElementId) -> bool
-        requires ua_live { IsLive self.now.elements.elements ua }
-        requires at_live { IsLive self.now.elements.elements at }
-        ensures { result ≡ both may_associate (element_at self.now.elements.elements ua) (element_at self.now.elements.elements at) }
+        requires ua_live { IsLive self.now.diagram.elements ua }
+        requires at_live { IsLive self.now.diagram.elements at }
+        ensures { result ≡ both may_associate (element_at self.now.diagram.elements ua) (element_at self.now.diagram.elements at) }
     {
-        may_associate(self.elements.kind(ua), self.elements.kind(at))
+        let elements = self.diagram.elements();
+        may_associate(elements.kind(ua), elements.kind(at))
     }
 
     pub(crate) fn associate(

@@ -4,6 +4,7 @@ ghost use Rattle.std.specs.Prelude.{◌≡◌, ◌||◌, None, Some};
 ghost use Rattle.std.specs.List.{list_any};
 ghost use Rattle.pm_model.specs.Decision.{associations_of};
 ghost use Rattle.pm_model.specs.Prohibitions.{names_element};
+ghost use Rattle.pm_model.specs.Obligations.{concerns};
 ghost use Rattle.pm_model.specs.Effect.{is_builtin, is_builtin_element, has_end, is_in_use};
 ghost use Rattle.pm_model.specs.Formed.{IsNamed};
 ghost use Rattle.pm_state.specs.Changes.{Changes, Checks};
@@ -31,7 +32,7 @@ impl Tables {
         requires { IsNamed (graph_of self.old) (Change.Create id Kind.Pc name None) }
         ensures { Changes self.old self.new (Change.Create id Kind.Pc name None) result }
     {
-        match self.elements.check_create(Kind::Pc, name, None) {
+        match self.diagram.check_create(Kind::Pc, name, None) {
             Ok(()) => {}
             Err(error) => return Err(pm_elements::change_error(error)),
         }
@@ -39,7 +40,7 @@ impl Tables {
             Ok(place) => place,
             Err(Memory) => return Err(ChangeError::Memory),
         };
-        match self.elements.create(Kind::Pc, name, None) {
+        match self.diagram.create(Kind::Pc, name, None) {
             Ok(number) => Ok(Made::Element(number)),
             Err(error) => {
                 self.classes.remove(place);
@@ -62,7 +63,7 @@ impl Tables {
         if kind == Kind::Pc {
             return Err(ChangeError::Refused(Refusal::BadKinds));
         }
-        match self.elements.create(kind, name, Some(into)) {
+        match self.diagram.create(kind, name, Some(into)) {
             Ok(number) => Ok(Made::Element(number)),
             Err(error) => Err(pm_elements::change_error(error)),
         }
@@ -95,17 +96,24 @@ impl Tables {
         requires { IsNamed (graph_of self.now) (Change.Create id kind name into) }
         ensures { Checks self.now (Change.Create id kind name into) result }
     {
-        match self.elements.check_create(kind, name, into) {
+        match self.diagram.check_create(kind, name, into) {
             Ok(()) => Ok(()),
             Err(error) => Err(pm_elements::change_error(error)),
         }
     }
 
     // Whether an association or a prohibition names the element.
-    fn is_in_a_rule(&self, id: ElementId) -> bool
+    fn is_in_an_access_rule(&self, id: ElementId) -> bool
         ensures { result ≡ (list_any (has_end id) (associations_of self.now.assoc.grantees) || list_any (names_element id) self.now.deny.items) }
     {
         self.assoc.names(id) || self.deny.names(id)
+    }
+
+    // Whether an association, a prohibition or an obligation names the element.
+    fn is_in_a_rule(&self, id: ElementId) -> bool
+        ensures { result ≡ (list_any (has_end id) (associations_of self.now.assoc.grantees) || list_any (names_element id) self.now.deny.items || list_any (concerns id) self.now.oblig.items) }
+    {
+        self.is_in_an_access_rule(id) || self.oblig.names(id)
     }
 
     fn is_in_use(&self, id: ElementId) -> bool
@@ -114,7 +122,7 @@ impl Tables {
         self.is_in_a_rule(id) || self.procs.has_session(id)
     }
 
-    /// It takes no memory. It looks at each association, prohibition and session.
+    /// It looks at each association, prohibition, obligation and session, and may want memory for its row.
     pub(crate) fn delete(&mut self, id: ElementId) -> Result<Made, ChangeError>
         requires { IsNamed (graph_of self.old) (Change.Delete id) }
         ensures { Changes self.old self.new (Change.Delete id) result }
@@ -123,7 +131,7 @@ impl Tables {
             Ok(()) => {}
             Err(error) => return Err(error),
         }
-        match self.elements.remove(id) {
+        match self.diagram.remove(id) {
             Ok(()) => {
                 take_out(&mut self.classes, id);
                 Ok(Made::Nothing)
@@ -139,7 +147,7 @@ impl Tables {
         if is_builtin_element(id) {
             return Err(ChangeError::Refused(Refusal::Builtin));
         }
-        if self.elements.has_children(id) {
+        if self.diagram.elements().has_children(id) {
             return Err(ChangeError::Refused(Refusal::Occupied));
         }
         if self.is_in_use(id) {
@@ -152,7 +160,7 @@ impl Tables {
         requires { IsNamed (graph_of self.now) (Change.Assign from to) }
         ensures { Checks self.now (Change.Assign from to) result }
     {
-        match self.elements.check_assign(from, to) {
+        match self.diagram.check_assign(from, to) {
             Ok(()) => Ok(()),
             Err(error) => Err(pm_elements::change_error(error)),
         }
@@ -162,12 +170,13 @@ impl Tables {
         requires { IsNamed (graph_of self.old) (Change.Assign from to) }
         ensures { Changes self.old self.new (Change.Assign from to) result }
     {
-        match self.elements.assign(from, to) {
+        match self.diagram.assign(from, to) {
             Ok(()) => Ok(Made::Nothing),
             Err(error) => Err(pm_elements::change_error(error)),
         }
     }
 
+    /// It may want memory for the rows of what is contained in the element.
     pub(crate) fn deassign(&mut self, from: ElementId, to: ElementId) -> Result<Made, ChangeError>
         requires { IsNamed (graph_of self.old) (Change.Deassign from to) }
         ensures { Changes self.old self.new (Change.Deassign from to) result }
@@ -175,7 +184,7 @@ impl Tables {
         if is_builtin(from, to) {
             return Err(ChangeError::Refused(Refusal::Builtin));
         }
-        match self.elements.deassign(from, to) {
+        match self.diagram.deassign(from, to) {
             Ok(()) => Ok(Made::Nothing),
             Err(error) => Err(pm_elements::change_error(error)),
         }
@@ -188,7 +197,7 @@ impl Tables {
         if is_builtin(from, to) {
             return Err(ChangeError::Refused(Refusal::Builtin));
         }
-        match self.elements.check_deassign(from, to) {
+        match self.diagram.check_deassign(from, to) {
             Ok(()) => Ok(()),
             Err(error) => Err(pm_elements::change_error(error)),
         }

@@ -1,17 +1,22 @@
-ghost use Rattle.std.specs.Prelude.{◌≡◌, ◌<◌, IfSome, slice_get, OnOk, OnErr, IfOk, IfErr, None};
-ghost use Rattle.pm_model.specs.State.{opening, classes_in};
+ghost use Rattle.std.specs.Prelude.{◌≡◌, ◌<◌, ℕ, IfSome, is_some, slice_get, OnOk, OnErr, IfOk, IfErr, None};
+ghost use Rattle.pm_model.specs.State.{element_at, opening, classes_in};
 ghost use Rattle.pm_model.specs.Decision.{associations_of};
 ghost use Rattle.pm_model.specs.Effect.{refusal, effect, IsCause};
 ghost use Rattle.pm_model.specs.Formed.{IsWellFormed, IsNamed};
 ghost use Rattle.pm_model.specs.Made.{made_by};
 ghost use Rattle.pm_model.specs.RightSet.{bit_named};
+ghost use Rattle.pm_reach.specs.Changes.{TellContainment};
+ghost use Rattle.pm_reach.specs.Rows.{has};
 
 use crate::tables::Tables;
 use pm_assoc::Assoc;
 use pm_deny::Deny;
+use pm_diagram::{Containment, Diagram};
 use pm_elements::Elements;
 use pm_model::{Change, ChangeError, ClassList, ElementId, Made, Memory, Name, NameOf};
+use pm_oblig::Obligations;
 use pm_procs::Procs;
+use pm_reach::ReachRows;
 use pm_rights::RightNames;
 use std::alloc::Global;
 use std::marker::Model;
@@ -39,18 +44,20 @@ impl Graph {
     pub(crate) fn opening(alloc: Global) -> Result<Graph, Memory>
         ensures { IfOk result (λ g. g ≡ opening.graph) }
     {
-        let elements = Elements::opening(alloc)?;
+        let diagram = Diagram::opening(alloc)?;
         let mut classes = ClassList::new(alloc);
         classes.push(ElementId(0))?;
         let assoc = Assoc::new(alloc);
         let deny = Deny::new(alloc);
+        let oblig = Obligations::new(alloc);
         let rights = RightNames::opening(alloc)?;
         let procs = Procs::opening(alloc)?;
         Ok(Graph {
             tables: Tables {
-                elements,
+                diagram,
                 assoc,
                 deny,
+                oblig,
                 rights,
                 procs,
                 classes,
@@ -70,7 +77,23 @@ impl Graph {
         ensures elements { result.now.elements ≡ self.now.elements }
         ensures assigned { result.now.assigned ≡ self.now.assigned }
     {
-        &self.tables.elements
+        self.tables.diagram.elements()
+    }
+
+    /// The rows of containment: each live element's has what it is contained in.
+    pub fn rows(&self) -> &ReachRows
+        ensures live { (x : ℕ) → has result.now.rows x ≡ is_some (element_at self.now.elements x) }
+        ensures rows { TellContainment self.now.assigned result.now.rows }
+    {
+        self.tables.diagram.rows()
+    }
+
+    /// What is contained in what, as the rows have it: whoever asks takes no memory.
+    pub fn reach(&self) -> Containment<'_>
+        ensures elements { result.diagram.now.elements ≡ self.now.elements }
+        ensures assigned { result.diagram.now.assigned ≡ self.now.assigned }
+    {
+        self.tables.diagram.reach()
     }
 
     /// The associations.
@@ -85,6 +108,13 @@ impl Graph {
         ensures { result.now.items ≡ self.now.prohibitions }
     {
         &self.tables.deny
+    }
+
+    /// The obligations, in order of creation.
+    pub fn obligations(&self) -> &Obligations
+        ensures { result.now.items ≡ self.now.obligations }
+    {
+        &self.tables.oblig
     }
 
     /// The sessions and their processes.
@@ -116,7 +146,7 @@ impl Graph {
         &self.tables.classes
     }
 
-    /// Lets copies share the tables' pages.
+    /// Lets copies share the tables' pages and rows.
     pub(crate) fn share(&mut self) -> Result<(), Memory>
         ensures { self.new ≡ self.old }
     {
@@ -166,6 +196,6 @@ impl NameOf for Graph {
     ghost name_at = { λ g. name_numbered g.elements };
 
     fn name_of(&self, id: ElementId) -> Name {
-        self.tables.elements.name(id)
+        self.tables.diagram.elements().name(id)
     }
 }

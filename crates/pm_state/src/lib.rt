@@ -6,6 +6,7 @@ mod classes;
 mod draft;
 mod elements;
 mod graph;
+mod obligations;
 mod prohibitions;
 mod sessions;
 mod state;

@@ -24,25 +24,27 @@ fn is_place_kind(kind: Kind) -> bool
 impl Tables {
     // Whether the element is of a kind that may stand in a set of a prohibition.
     fn is_place(&self, id: ElementId) -> bool
-        ensures { result ≡ is_place self.now.elements.elements id }
+        ensures { result ≡ is_place self.now.diagram.elements id }
     {
-        self.elements.live(id) && is_place_kind(self.elements.kind(id))
+        let elements = self.diagram.elements();
+        elements.live(id) && is_place_kind(elements.kind(id))
     }
 
     fn are_places(&self, places: &PlaceList) -> bool
-        ensures { result ≡ list_all (is_place self.now.elements.elements) places.now }
+        ensures { result ≡ list_all (is_place self.now.diagram.elements) places.now }
     {
         places.as_slice().iter().all(|id| self.is_place(*id))
     }
 
     fn is_user_attribute(&self, id: ElementId) -> bool
-        ensures { result ≡ has_kind is_ua_kind (element_at self.now.elements.elements id) }
+        ensures { result ≡ has_kind is_ua_kind (element_at self.now.diagram.elements id) }
     {
-        self.elements.live(id) && matches!(self.elements.kind(id), Kind::Ua)
+        let elements = self.diagram.elements();
+        elements.live(id) && matches!(elements.kind(id), Kind::Ua)
     }
 
     fn has_subject_kind(&self, subject: Subject<ElementId, u32>) -> bool
-        ensures { result ≡ has_subject_kind self.now.elements.elements subject }
+        ensures { result ≡ has_subject_kind self.now.diagram.elements subject }
     {
         match subject {
             Subject::User(id) => self.is_user(id),
@@ -52,7 +54,7 @@ impl Tables {
     }
 
     fn may_prohibit(&self, item: &Prohibition) -> bool
-        ensures { result ≡ may_prohibit self.now.elements.elements item.now }
+        ensures { result ≡ may_prohibit self.now.diagram.elements item.now }
     {
         self.has_subject_kind(item.subject)
             && self.are_places(&item.inc)

@@ -14,9 +14,10 @@ use pm_procs::change_error;
 impl Tables {
     /// Whether the element is a user.
     pub(crate) fn is_user(&self, id: ElementId) -> bool
-        ensures { result ≡ has_kind is_user_kind (element_at self.now.elements.elements id) }
+        ensures { result ≡ has_kind is_user_kind (element_at self.now.diagram.elements id) }
     {
-        self.elements.live(id) && matches!(self.elements.kind(id), Kind::User)
+        let elements = self.diagram.elements();
+        elements.live(id) && matches!(elements.kind(id), Kind::User)
     }
 
     pub(crate) fn open_session(&mut self, user: ElementId) -> Result<Made, ChangeError>

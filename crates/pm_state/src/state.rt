@@ -129,9 +129,9 @@ impl State {
         }
     }
 
-    /// Lets copies share what this state has: its tables in pages, and its entries. It takes memory for
-    /// each page that is the state's own, and none for what stands in it. On Memory some pages are shared,
-    /// and a later call goes on.
+    /// Lets copies share what this state has: its tables in pages, its rows of containment, and its
+    /// entries. It takes memory for each page and row that is the state's own, and none for what stands in
+    /// it. On Memory some are shared, and a later call goes on.
     pub fn share(&mut self) -> Result<(), Memory>
         ensures { self.new ≡ self.old }
     {

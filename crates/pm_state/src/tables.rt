@@ -6,16 +6,18 @@ ghost use Rattle.pm_state.specs.Shown.{graph_of};
 
 use pm_assoc::Assoc;
 use pm_deny::Deny;
-use pm_elements::Elements;
+use pm_diagram::Diagram;
 use pm_model::{Change, ChangeError, ClassList, Made, Memory};
+use pm_oblig::Obligations;
 use pm_procs::Procs;
 use pm_rights::RightNames;
 
 #[derive(Drop)]
 pub(crate) struct Tables {
-    pub(crate) elements: Elements,
+    pub(crate) diagram: Diagram,
     pub(crate) assoc: Assoc,
     pub(crate) deny: Deny,
+    pub(crate) oblig: Obligations,
     pub(crate) rights: RightNames,
     pub(crate) procs: Procs,
     /// The policy classes, by rising number.
@@ -23,12 +25,14 @@ pub(crate) struct Tables {
 }
 
 impl Tables {
-    /// Lets copies share the tables' pages. On Memory some may be shared.
+    /// Lets copies share the tables' pages and rows. On Memory some may be shared.
     pub(crate) fn share(&mut self) -> Result<(), Memory>
         ensures { IsSame self.old self.new }
     {
+        self.diagram.share()?;
         self.assoc.share()?;
         self.deny.share()?;
+        self.oblig.share()?;
         self.procs.share()
     }
 
@@ -37,16 +41,18 @@ impl Tables {
         ensures graph { IfOk result (λ same. graph_of same ≡ graph_of self.now) }
         ensures classes { IfOk result (λ same. same.classes ≡ self.now.classes) }
     {
-        let elements = self.elements.copy()?;
+        let diagram = self.diagram.copy()?;
         let assoc = self.assoc.copy()?;
         let deny = self.deny.copy()?;
+        let oblig = self.oblig.copy()?;
         let rights = self.rights.copy()?;
         let procs = self.procs.copy()?;
         let classes = self.classes.copy()?;
         Ok(Tables {
-            elements,
+            diagram,
             assoc,
             deny,
+            oblig,
             rights,
             procs,
             classes,
@@ -76,6 +82,8 @@ impl Tables {
             Change::EndProcess { process } => self.end_process(*process),
             Change::Prohibit { item } => self.prohibit(item),
             Change::Lift { index } => self.lift(*index),
+            Change::Oblige { item } => self.oblige(item),
+            Change::Withdraw { index } => self.withdraw(*index),
             Change::DefineRight { name } => self.define_right(*name),
         }
     }
@@ -103,6 +111,8 @@ impl Tables {
             Change::EndProcess { process } => self.check_end_process(*process),
             Change::Prohibit { item } => self.check_prohibit(item),
             Change::Lift { .. } => Ok(()),
+            Change::Oblige { item } => self.check_oblige(item),
+            Change::Withdraw { .. } => Ok(()),
             Change::DefineRight { name } => self.check_define_right(*name),
         }
     }

@@ -1,10 +1,11 @@
 //! What the machine makes of a request in a state, before anything is changed.
-ghost use Rattle.std.specs.Prelude.{◌≡◌, Ok, IfOk, Some};
-ghost use Rattle.pm_model.specs.Answer.{acting, accessed, entered, is_ahead, proposed, told, reply_or};
+ghost use Rattle.std.specs.Prelude.{◌≡◌, Ok, IfOk, Some, true};
+ghost use Rattle.pm_model.specs.Answer.{acting, accessed, entered, is_ahead, proposed, reply_or};
 ghost use Rattle.pm_model.specs.Authority.{ruling};
 ghost use Rattle.pm_model.specs.History.{state_of};
 ghost use Rattle.pm_model.specs.Results.{and_then};
 ghost use Rattle.pm_model.specs.Resolve.{look_up};
+ghost use Rattle.pm_step.specs.Asking.{only_asks, IsTold};
 ghost use Rattle.pm_step.specs.Proposed.{answer_by, IsPossible};
 
 use pm_admin::{Ruling, acting, authorise_access, look_up, permit};
@@ -70,26 +71,25 @@ fn administer(state: &State, process: u32, command: &Command) -> Result<Proposal
     }
 }
 
-fn accessed(state: &State, process: u32, right: Name, target: Name) -> Result<Proposal, Memory>
-    ensures answer { IfOk result (λ p. answer_by (state_of state.now) p ≡ told (reply_or (and_then (acting state.now.graph process) (λ u. accessed state.now.graph u process right target)))) }
-    ensures possible { IfOk result (IsPossible (state_of state.now)) }
+fn accessed(state: &State, process: u32, right: Name, target: Name) -> Reply
+    ensures { result ≡ reply_or (and_then (acting state.now.graph process) (λ u. accessed state.now.graph u process right target)) }
 {
     let graph = state.graph();
     let user = match acting(graph, process) {
         Ok(user) => user,
-        Err(why) => return Ok(refused(why)),
+        Err(why) => return Reply::Refused(why),
     };
     match authorise_access(graph, user, process, right, target) {
-        Ok(Ruling::Allowed) => Ok(Proposal::Told(Reply::Granted)),
-        Ok(Ruling::Refused(why)) => Ok(refused(why)),
-        Err(Memory) => Err(Memory),
+        Ruling::Allowed => Reply::Granted,
+        Ruling::Refused(why) => Reply::Refused(why),
     }
 }
 
-/// What the machine makes of a request. Its only error is want of memory.
+/// What the machine makes of a request. Its only error is want of memory, for the sets of a prohibition.
 pub(crate) fn propose(state: &State, request: &Request) -> Result<Proposal, Memory>
     ensures answer { IfOk result (λ p. answer_by (state_of state.now) p ≡ proposed (state_of state.now) request.now) }
     ensures possible { IfOk result (IsPossible (state_of state.now)) }
+    ensures asked { only_asks request.now.body ≡ true → IsTold result }
 {
     if is_ahead(request.after, state.version()) {
         return Ok(Proposal::Told(Reply::Ahead));
@@ -110,7 +110,7 @@ pub(crate) fn propose(state: &State, request: &Request) -> Result<Proposal, Memo
             process,
             right,
             target,
-        } => accessed(state, *process, *right, *target),
+        } => Ok(Proposal::Told(accessed(state, *process, *right, *target))),
         Body::Admin { process, command } => administer(state, *process, command),
     }
 }

@@ -1,9 +1,10 @@
 //! One request as a step: in place, or from one state to the next.
-ghost use Rattle.std.specs.Prelude.{◌≡◌, Ok, IfOk, OnErr};
+ghost use Rattle.std.specs.Prelude.{◌≡◌, Ok, IfOk, IsOk, OnErr, true};
 ghost use Rattle.pm_model.specs.Answer.{entered, proposed};
 ghost use Rattle.pm_model.specs.Formed.{IsNamed};
 ghost use Rattle.pm_model.specs.History.{state_of};
 ghost use Rattle.pm_step.specs.Answered.{HasAnswered, IsStep};
+ghost use Rattle.pm_step.specs.Asking.{only_asks};
 
 use crate::proposals::{Proposal, propose};
 use crate::replies::done;
@@ -35,10 +36,11 @@ fn enter(state: &mut State, change: &Change, entry: Entry) -> Result<Reply, Memo
 
 /// The machine's answer to a request in this state, which goes on by it. Where the request is accepted, the
 /// state has it as the entry of this seat with this number. Where it isn't, and on Memory, the state is as
-/// before.
+/// before; a request that only asks never answers Memory.
 pub fn advance(state: &mut State, seat: u32, nth: u64, request: &Request) -> Result<Reply, Memory>
     ensures ok { IfOk result (HasAnswered state.old state.new (record { seat = seat; nth = nth; request = request.now })) }
     ensures err { OnErr result (state.new ≡ state.old) }
+    ensures free { only_asks request.now.body ≡ true → IsOk result }
 {
     match propose(state, request) {
         Ok(Proposal::Told(reply)) => Ok(reply),

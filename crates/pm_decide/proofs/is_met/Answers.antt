@@ -1,25 +1,44 @@
--- A user attribute of the run meets, or the answer is that of those behind the run.
-use Rattle.std.proofs.Common.{arith, ◌∙◌}
-use Rattle.pm_decide.proofs.Groups.{run-yes, run-no}
-use Rattle.pm_decide.proofs.Runs.{run-within}
+-- A user attribute of the word gives the right, or the answer is that of those of the words behind it.
+use Rattle.std.proofs.Common.{refl, sym, ◌∙◌, arith}
+use Rattle.pm_decide.specs.Gives.{some_gives}
+use Rattle.pm_decide.proofs.Groups.{met_by_some}
+use Rattle.pm_decide.proofs.Hits.{words-begun, words-done, word-yes, word-no, hits-holders}
 use Rattle.pm_decide.proofs.is_met.Goals as goal
 
-pub returns-then-is_met_in-clause-answer : goal.returns-then-is_met_in-clause-answer
-returns-then-is_met_in-clause-answer g c =
+pub loop-k-init : goal.loop-k-init
+loop-k-init g c =
     let below = (g.R.Reach.relation c.args.reach.now).below in
     let all = g.G.Grants.grantees c.args.grants.now in
-    run-yes below c.args.user c.args.right c.args.element c.args.class all c.grantees_from-run.result.now c.loop-start.start
-    c.grantees_from-run.ensures.items c.loop-start.invariant.rest (rw c.loop-start.invariant.same at c.if-is_met_in.ensures.answer)
-
-pub loop-start-preserved : goal.loop-start-preserved
-loop-start-preserved g c =
-    let below = (g.R.Reach.relation c.args.reach.now).below in
-    let all = g.G.Grants.grantees c.args.grants.now in
-    let run = c.grantees_from-run.result.now in
-    let lent = c.grantees_from-run.ensures.items in
     record {
-      within = run-within all run c.loop-start.start lent (omega arith);
-      same = c.is_met_in.ensures.same ∙ c.loop-start.invariant.same;
-      rest = run-no below c.args.user c.args.right c.args.element c.args.class all run c.loop-start.start
-          lent c.loop-start.invariant.rest (rw c.loop-start.invariant.same at c.if-is_met_in.ensures.answer);
+      same = refl;
+      rest = met_by_some below c.args.user c.args.right c.args.element c.args.class all
+          ∙ words-begun below c.args.user (some_gives below c.args.right c.args.element c.args.class) all;
     }
+
+pub is_given_in-requires-clause-word : goal.is_given_in-requires-clause-word
+is_given_in-requires-clause-word g c =
+    hits-holders (g.R.Reach.relation c.loop-k.reach).below c.args.user (g.G.Grants.grantees c.args.grants.now) c.loop-k.k c.holders_above-word.result
+    c.holders_above-word.ensures.hits
+
+pub returns-then-is_given_in-clause-answer : goal.returns-then-is_given_in-clause-answer
+returns-then-is_given_in-clause-answer g c =
+    let below = (g.R.Reach.relation c.args.reach.now).below in
+    word-yes below c.args.user (some_gives below c.args.right c.args.element c.args.class) (g.G.Grants.grantees c.args.grants.now)
+    c.loop-k.k c.holders_above-word.result (rw c.loop-k.invariant.same at c.holders_above-word.ensures.hits) _ c.loop-k.invariant.rest
+    (rw (c.holders_above-word.ensures.same, c.loop-k.invariant.same) at c.if-is_given_in.ensures.answer)
+
+pub loop-k-preserved : goal.loop-k-preserved
+loop-k-preserved g c =
+    let below = (g.R.Reach.relation c.args.reach.now).below in
+    record {
+      same = c.is_given_in.ensures.same ∙ c.holders_above-word.ensures.same ∙ c.loop-k.invariant.same;
+      rest = word-no below c.args.user (some_gives below c.args.right c.args.element c.args.class) (g.G.Grants.grantees c.args.grants.now)
+          c.loop-k.k c.holders_above-word.result (rw c.loop-k.invariant.same at c.holders_above-word.ensures.hits) _ c.loop-k.invariant.rest
+          (rw (c.holders_above-word.ensures.same, c.loop-k.invariant.same) at c.if-is_given_in.ensures.answer);
+    }
+
+pub returns-clause-answer : goal.returns-clause-answer
+returns-clause-answer g c =
+    let below = (g.R.Reach.relation c.args.reach.now).below in
+    words-done below c.args.user (some_gives below c.args.right c.args.element c.args.class) (g.G.Grants.grantees c.args.grants.now)
+    c.holder_words-k-end.result c.loop-k.k c.holder_words-k-end.ensures.within c.loop-k-test.false ∙ sym c.loop-k.invariant.rest

@@ -202,11 +202,12 @@ fn refusals_have_words(rt: HostRuntime) -> Result<(), Fail> {
     Ok(())
 }
 
-const TABLES: [(Table, &str); 8] = [
+const TABLES: [(Table, &str); 9] = [
     (Table::Elements, "elements"),
     (Table::Assignments, "assignments"),
     (Table::Associations, "associations"),
     (Table::Prohibitions, "prohibitions"),
+    (Table::Obligations, "obligations"),
     (Table::Sessions, "sessions"),
     (Table::Processes, "processes"),
     (Table::Rights, "rights"),

@@ -29,7 +29,7 @@ fn item_of(rt: &(impl Abort + Alloc<A = Global>), row: &Row) -> Result<Obligatio
 fn list_of(rt: &(impl Abort + Alloc<A = Global>), rows: &[Row]) -> Result<Obligations, Fail> {
     let mut list = Obligations::new(rt.alloc());
     for row in rows {
-        list.add(item_of(rt, row)?)?;
+        list.oblige(item_of(rt, row)?)?;
     }
     Ok(list)
 }
@@ -49,25 +49,26 @@ fn names_of(alloc: Global, list: &Obligations) -> Result<Vec<u8>, Memory> {
 fn a_name_stands_once(rt: HostRuntime) -> Result<(), Fail> {
     let mut list = list_of(&rt, &ROWS)?;
     let again = item_of(&rt, &("c", 11, None, None))?;
-    assert_eq!(rt; list.check_add(again.name), Err(ObligError::NameTaken));
-    assert_eq!(rt; list.add(again), Err(ObligError::NameTaken));
-    assert_eq!(rt; list.check_add(named(&rt, "e")), Ok(()));
+    assert_eq!(rt; list.check_oblige(&again), Err(ObligError::NameTaken));
+    assert_eq!(rt; list.oblige(again), Err(ObligError::NameTaken));
+    let other = item_of(&rt, &("e", 11, None, None))?;
+    assert_eq!(rt; list.check_oblige(&other), Ok(()));
     assert_eq!(rt; names_of(rt.alloc(), &list)?.as_slice(), b"abcd".as_slice());
     assert!(rt; !list.names(ElementId(11)));
     Ok(())
 }
 
 #[test]
-fn remove_gives_the_obligation(rt: HostRuntime) -> Result<(), Fail> {
+fn withdraw_gives_the_obligation(rt: HostRuntime) -> Result<(), Fail> {
     let mut list = list_of(&rt, &ROWS)?;
     let b = named(&rt, "b");
     assert_eq!(rt; list.find(b), Some(1));
-    let removed = list.remove(b)?;
-    assert!(rt; removed.name == b);
-    assert_eq!(rt; removed.author, ElementId(5));
-    assert_eq!(rt; removed.pattern.user, Some(ElementId(6)));
+    let withdrawn = list.withdraw(b)?;
+    assert!(rt; withdrawn.name == b);
+    assert_eq!(rt; withdrawn.author, ElementId(5));
+    assert_eq!(rt; withdrawn.pattern.user, Some(ElementId(6)));
     assert_eq!(rt; names_of(rt.alloc(), &list)?.as_slice(), b"acd".as_slice());
-    let again = list.remove(b);
+    let again = list.withdraw(b);
     assert!(rt; matches!(again, Err(ObligError::Absent)));
     assert_eq!(rt; list.find(named(&rt, "d")), Some(2));
     assert!(rt; list.get(3).is_none());
@@ -89,8 +90,9 @@ fn names_author_and_pattern(rt: HostRuntime) -> Result<(), Fail> {
 #[test]
 fn a_copy_is_another_list(rt: HostRuntime) -> Result<(), Fail> {
     let mut list = list_of(&rt, &ROWS)?;
+    list.share()?;
     let copy = list.copy()?;
-    let first = list.remove(named(&rt, "a"))?;
+    let first = list.withdraw(named(&rt, "a"))?;
     assert_eq!(rt; first.author, ElementId(2));
     assert_eq!(rt; names_of(rt.alloc(), &copy)?.as_slice(), b"abcd".as_slice());
     let fourth = copy.get(3).ok_or("a fourth")?;
@@ -111,15 +113,18 @@ fn holds_1024_obligations(rt: HostRuntime) -> Result<(), Fail> {
     for n in 0..1024 {
         let mut item = item_of(&rt, &ROWS[0])?;
         item.name = numbered(&rt, n);
-        list.add(item)?;
+        list.oblige(item)?;
     }
     assert_eq!(rt; list.len(), 1024);
-    assert_eq!(rt; list.add(item_of(&rt, &ROWS[0])?), Err(ObligError::Full));
+    let full = list.oblige(item_of(&rt, &ROWS[0])?);
+    assert_eq!(rt; full, Err(ObligError::Full));
     let taken = numbered(&rt, 1023);
-    assert_eq!(rt; list.check_add(taken), Err(ObligError::NameTaken));
-    let removed = list.remove(taken)?;
-    assert!(rt; removed.name == taken);
-    list.add(item_of(&rt, &ROWS[0])?)?;
+    let mut again = item_of(&rt, &ROWS[0])?;
+    again.name = taken;
+    assert_eq!(rt; list.check_oblige(&again), Err(ObligError::NameTaken));
+    let withdrawn = list.withdraw(taken)?;
+    assert!(rt; withdrawn.name == taken);
+    list.oblige(item_of(&rt, &ROWS[0])?)?;
     assert_eq!(rt; list.find(named(&rt, "a")), Some(1023));
     Ok(())
 }

@@ -13,6 +13,11 @@ impl Reach for InTenth {
     fn contains(&mut self, x: ElementId, y: ElementId) -> bool {
         x == y || x.number() / 10 == y.number()
     }
+
+    #[tactic(auto, using(pm_model::proofs::Bits::bit_or_has))]
+    fn above(&mut self, x: ElementId, k: u32) -> u64 {
+        x.bit_in(k) | ElementId(x.number() / 10).bit_in(k)
+    }
 }
 
 /// A name, and a user and a target where they are given.
@@ -52,7 +57,7 @@ fn reading(rt: &impl Abort) -> Event {
 fn list_of(rt: &(impl Abort + Alloc<A = Global>), rows: &[Row]) -> Result<Obligations, Fail> {
     let mut list = Obligations::new(rt.alloc());
     for row in rows {
-        list.add(waiting(rt, row)?)?;
+        list.oblige(waiting(rt, row)?)?;
     }
     Ok(list)
 }

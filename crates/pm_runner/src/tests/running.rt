@@ -98,12 +98,12 @@ fn obligation_of(alloc: Global, name: Name, tried: bool) -> Result<Obligation, F
 
 /// The two, with another one between.
 fn three(alloc: Global, asked: &Noting, other: Name) -> Result<Obligations, Fail>
-    ensures { IfOk result (λ list. list ≡ first_of_two asked.now.first ∷ second_of_two other true ∷ second_of_two asked.now.second asked.now.tried ∷ []) }
+    ensures { IfOk result (λ list. list.items ≡ first_of_two asked.now.first ∷ second_of_two other true ∷ second_of_two asked.now.second asked.now.tried ∷ []) }
 {
     let mut list = Obligations::new(alloc);
-    list.add(obligation_of(alloc, asked.first, false)?)?;
-    list.add(obligation_of(alloc, other, true)?)?;
-    list.add(obligation_of(alloc, asked.second, asked.tried)?)?;
+    list.oblige(obligation_of(alloc, asked.first, false)?)?;
+    list.oblige(obligation_of(alloc, other, true)?)?;
+    list.oblige(obligation_of(alloc, asked.second, asked.tried)?)?;
     Ok(list)
 }
 

@@ -1,10 +1,6 @@
 -- The answer is that of the places that are left.
-use Rattle.std.proofs.Common.{◌≡◌}
 use Rattle.pm_admin.proofs.FirstDenied.{IsLeft}
 use Rattle.pm_admin.proofs.capabilities.denied_on_places.Given as goal
 
 abbrev pub invariant-loop-i : goal.invariant-loop-i
-invariant-loop-i g l = record {
-  same : g.R.Reach.relation l.reach ≡ g.R.Reach.relation l.fn.reach;
-  rest : IsLeft l.fn.graph l.fn.user l.fn.process l.places l.i;
-}
+invariant-loop-i l = IsLeft l.fn.graph l.fn.user l.fn.process l.places l.i

@@ -7,7 +7,7 @@ use Rattle.pm_admin.proofs.Reasons.{reason-is, verdict-placed}
 use Rattle.pm_admin.proofs.denials.reason.Goals as goal
 
 pub decide-verdict-requires-clause-asked : goal.decide-verdict-requires-clause-asked
-decide-verdict-requires-clause-asked g c = rw (c.requires.reach) (record {
+decide-verdict-requires-clause-asked c = rw (c.reach-reach.ensures.elements, c.reach-reach.ensures.assigned) (record {
   user = c.requires.user;
   element = c.requires.element;
   classes = rw (c.classes-classes.ensures) (classes-live c.args.graph.now c.formed.ensures);
@@ -15,18 +15,18 @@ decide-verdict-requires-clause-asked g c = rw (c.requires.reach) (record {
 })
 
 pub decide-verdict-requires-clause-bars : goal.decide-verdict-requires-clause-bars
-decide-verdict-requires-clause-bars g c =
-    rw (c.requires.reach, c.deny-deny.ensures) (bars-live c.args.graph.now _ c.formed.ensures)
+decide-verdict-requires-clause-bars c =
+    rw (c.reach-reach.ensures.elements, c.reach-reach.ensures.assigned, c.deny-deny.ensures) (bars-live c.args.graph.now _ c.formed.ensures)
 
 pub reason_by-requires : goal.reason_by-requires
-reason_by-requires g c =
+reason_by-requires c =
     let G = c.args.graph.now in
-    rw (c.decide-verdict.ensures.answer, c.requires.reach)
+    rw (c.decide-verdict.ensures.answer, c.reach-reach.ensures.assigned)
     (verdict-placed (contained G.assigned) (associations_of c.assoc-assoc.result.now.grantees) c.deny-deny.result.now.items c.classes-classes.result.now
     c.args.user c.args.process c.args.right c.args.element)
 
-pub returns-clause-answer : goal.returns-clause-answer
-returns-clause-answer g c =
+pub returns : goal.returns
+returns c =
     let G = c.args.graph.now in
-    rw (c.reason_by.ensures, c.decide-verdict.ensures.answer, c.requires.reach, c.assoc-assoc.ensures, c.deny-deny.ensures, c.classes-classes.ensures)
+    rw (c.reason_by.ensures, c.decide-verdict.ensures.answer, c.reach-reach.ensures.assigned, c.assoc-assoc.ensures, c.deny-deny.ensures, c.classes-classes.ensures)
     (reason-is (contained G.assigned) G.associations G.prohibitions (classes_in G.elements) c.args.user c.args.process c.args.right c.args.element)

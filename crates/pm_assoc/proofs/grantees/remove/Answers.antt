@@ -1,5 +1,6 @@
 use Rattle.std.proofs.lemmas.Result.{on_ok_weaker}
 use Rattle.pm_assoc.proofs.Removed.{removed-at_once, removed-gap, ordered-removed}
+use Rattle.pm_assoc.proofs.Holding.{holds-at, holds-others}
 use Rattle.pm_assoc.proofs.grantees.remove.Goals as goal
 
 pub returns-in-Ok-clause-gone : goal.returns-in-Ok-clause-gone
@@ -14,3 +15,12 @@ returns-in-Ok-clause-ordered c =
 
 pub returns-in-Err-clause-gone : goal.returns-in-Err-clause-gone
 returns-in-Err-clause-gone c = removed-gap c.args.ua c.args.at 0 c.args.grantees.now.items _ c.requires c.in-Err.ensures.absent
+
+pub returns-in-Ok-clause-fewer : goal.returns-in-Ok-clause-fewer
+returns-in-Ok-clause-fewer c =
+    on_ok_weaker c.remove_at.result (λ left still. holds-at c.args.ua c.args.grantees.now.items c.in-Ok.i c.in-Ok.ensures.found) c.remove_at.ensures.items
+
+pub returns-in-Ok-clause-others : goal.returns-in-Ok-clause-others
+returns-in-Ok-clause-others c =
+    on_ok_weaker c.remove_at.result
+    (λ left. rw left (holds-others c.args.ua c.args.grantees.now.items c.in-Ok.i c.args.at c.in-Ok.ensures.found)) c.remove_at.ensures.items

@@ -1,6 +1,6 @@
 use Rattle.std.proofs.Common.{◌≡◌, ◌∙◌, sym}
 use Rattle.pm_model.specs.Prohibitions.{names_element}
-use Rattle.pm_deny.proofs.Runs.{any-in_run, any-behind_run}
+use Rattle.pm_pages.proofs.Runs.{any-in_run, any-behind_run}
 use Rattle.pm_deny.proofs.items.is_named.Goals as goal
 
 pub returns-then-is_named_among : goal.returns-then-is_named_among

@@ -1,6 +1,6 @@
 use Rattle.std.proofs.Common.{◌≡◌}
 use Rattle.pm_model.specs.Prohibitions.{is_called}
-use Rattle.pm_deny.proofs.Runs.{place-in_run, place-behind_run}
+use Rattle.pm_pages.proofs.Runs.{place-in_run, place-behind_run}
 use Rattle.pm_deny.proofs.items.place.Goals as goal
 
 pub returns-in-Some-clause-value : goal.returns-in-Some-clause-value

@@ -11,4 +11,6 @@ loop-parent-preserved c =
     record {
       left = rw c.drop_child.ensures (released_more c.args.parents.now slots c.loop-parent.parent-index y c.loop-parent-test.true c.parent-item.is ∙ c.loop-parent.invariant.left);
       taken = λ z. rw c.drop_child.ensures (kept_by is_some without_child (some_edited without_child) y z slots ∙ c.loop-parent.invariant.taken z);
+      own = rw c.drop_child.ensures c.loop-parent.invariant.own;
+      alone = rw c.drop_child.ensures c.loop-parent.invariant.alone;
     }

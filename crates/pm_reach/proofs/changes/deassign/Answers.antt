@@ -2,11 +2,10 @@
 use Rattle.pm_reach.proofs.Orders.{less-contained, deassigns}
 use Rattle.pm_reach.proofs.changes.deassign.Goals as goal
 
-pub remake_all-written-requires-clause-less : goal.remake_all-written-requires-clause-less
-remake_all-written-requires-clause-less g c =
-    rw c.ready_all.ensures.rows (less-contained (g.P.Parents.assigned c.args.parents.now) c.args.table.now.rows c.args.x c.args.y c.requires.was)
+pub remake_all-requires-clause-less : goal.remake_all-requires-clause-less
+remake_all-requires-clause-less g c = less-contained (g.P.Parents.assigned c.args.parents.now) c.args.table.now.rows c.args.x c.args.y c.requires.was
 
 pub returns-clause-rows : goal.returns-clause-rows
 returns-clause-rows g c =
-    deassigns (g.P.Parents.assigned c.args.parents.now) c.args.table.now.rows c.remake_all-written.new.table.rows c.args.x c.args.y _ c.requires.was
-    (rw c.ready_all.ensures.rows at c.remake_all-written.ensures)
+    deassigns (g.P.Parents.assigned c.args.parents.now) c.args.table.now.rows c.remake_all.new.table.rows c.args.x c.args.y _ c.requires.was
+    (rw c.number.ensures at c.remake_all.ensures)

@@ -5,7 +5,7 @@ use Rattle.pm_reach.proofs.changes.join_all.Goals as goal
 use Rattle.pm_reach.proofs.changes.join_all.Goals.{then-has, else-has}
 
 pub loop-z-init : goal.loop-z-init
-loop-z-init c = record { few = omega arith; passed = Passed-none c.requires }
+loop-z-init c = record { few = omega arith; passed = Passed-none c.requires.span c.requires.ready }
 
 pub loop-z-preserved : goal.loop-z-preserved
 loop-z-preserved c = elim c.if-has.branch [
@@ -21,4 +21,6 @@ loop-z-preserved c = elim c.if-has.branch [
 ]
 
 pub returns : goal.returns
-returns c = Passed-all c.loop-z.invariant.passed (λ p h. let below = c.len-size.ensures.within p h in omega (arith, below)) (omega (arith, c.loop-z.auto.z-end, c.len-size.ensures.most))
+returns c =
+    let z = c.loop-z.auto.z-end in
+    Passed-all c.loop-z.invariant.passed (λ p h. let to = c.requires.span.to p h in omega arith) (let few = c.requires.span.few in omega arith)

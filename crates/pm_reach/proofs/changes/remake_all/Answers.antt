@@ -5,7 +5,7 @@ use Rattle.pm_reach.proofs.changes.remake_all.Goals as goal
 use Rattle.pm_reach.proofs.changes.remake_all.Goals.{then-has, else-has}
 
 pub loop-z-init : goal.loop-z-init
-loop-z-init g c = record { few = omega arith; none = c.requires.none; passed = Passed-none c.requires.ready }
+loop-z-init g c = record { few = omega arith; none = c.requires.none; passed = Passed-none c.requires.span c.requires.ready }
 
 pub loop-z-preserved : goal.loop-z-preserved
 loop-z-preserved g c = elim c.if-has.branch [
@@ -22,4 +22,6 @@ loop-z-preserved g c = elim c.if-has.branch [
 ]
 
 pub returns : goal.returns
-returns g c = Passed-all c.loop-z.invariant.passed (λ p h. let below = c.len-size.ensures.within p h in omega (arith, below)) (omega (arith, c.loop-z.auto.z-end, c.len-size.ensures.most))
+returns g c =
+    let z = c.loop-z.auto.z-end in
+    Passed-all c.loop-z.invariant.passed (λ p h. let to = c.requires.span.to p h in omega arith) (let few = c.requires.span.few in omega arith)

@@ -18,7 +18,7 @@ returns-clause-row c q =
 pub returns-clause-writes : goal.returns-clause-writes
 returns-clause-writes c =
     let s = swapped c.args.pages.now.items c.take_page-page.new.pages.items c.put_page.new.pages.items _ _ _ c.take_page-page.ensures.page c.take_page-page.ensures.pages c.put_page.ensures in
-    writes-page c.args.x s (some-own c.take_page-page.result.rows.items _ _ (ready-page c.args.pages.now.items c.args.x _ c.take_page-page.result c.take_page-page.ensures.page c.requires.ready)) c.rewrite_row.ensures.live c.rewrite_row.ensures.others
+    writes-page c.args.pages.now c.put_page.new.pages c.args.x s (some-own c.take_page-page.result.rows.items _ _ (ready-page c.args.pages.now.items c.args.x _ c.take_page-page.result c.take_page-page.ensures.page c.requires.ready)) c.rewrite_row.ensures.live c.rewrite_row.ensures.others
 
 pub rewrite_row-requires-clause-less : goal.rewrite_row-requires-clause-less
 rewrite_row-requires-clause-less c q h =

@@ -8,6 +8,6 @@ invariant-loop-i g l =
     let before = g.R.Reach.relation l.fn.reach in
     record {
       same : g.R.Reach.relation l.reach ≡ before;
-      rest : nat_lt 0 (length (matching before.below l.obligations l.event))
-          ≡ nat_lt 0 (length (matching before.below (drop l.i l.obligations) l.event));
+      rest : nat_lt 0 (length (matching before.below l.obligations.items l.event))
+          ≡ nat_lt 0 (length (matching before.below (drop l.i l.obligations.items) l.event));
     }

@@ -9,7 +9,7 @@ invariant-loop-i g l =
     let before = g.R.Reach.relation l.fn.reach in
     record {
       same : g.R.Reach.relation l.reach ≡ before;
-      places : StandAt l.obligations l.places (matching before.below (take l.i l.obligations) l.event);
-      below : All (λ place. place < length l.obligations) l.places;
+      places : StandAt l.obligations.items l.places (matching before.below (take l.i l.obligations.items) l.event);
+      below : All (λ place. place < length l.obligations.items) l.places;
       few : length l.places ≤ l.i;
     }

@@ -1,5 +1,5 @@
 -- The copy's history is longer exactly where the request is accepted.
-use Rattle.std.proofs.Common.{◌≡◌, sym, ◌∙◌}
+use Rattle.std.proofs.Common.{sym, ◌∙◌}
 use Rattle.pm_step.proofs.Stepping.{answered-alone, answered-on}
 use Rattle.pm_step.proofs.steps.step.Goals as goal
 

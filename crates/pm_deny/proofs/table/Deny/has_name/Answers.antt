@@ -1,6 +1,6 @@
 use Rattle.std.proofs.Common.{◌∙◌, ap, is_some}
 use Rattle.pm_model.specs.Prohibitions.{is_called}
-use Rattle.pm_deny.proofs.Runs.{is_some-place}
+use Rattle.pm_pages.proofs.Runs.{is_some-place}
 use Rattle.pm_deny.proofs.table.Deny.has_name.Goals as goal
 
 pub returns : goal.returns

@@ -1,5 +1,5 @@
 -- One assignment less, where nothing refuses it.
-use Rattle.std.proofs.Common.{ap, ◌∙◌}
+use Rattle.std.proofs.Common.{ap, ◌∙◌, ◌&&◌}
 use Rattle.pm_elements.specs.Slots.{shown, pairs_of}
 use Rattle.pm_elements.proofs.Shown.{slot_taken}
 use Rattle.pm_elements.proofs.Fits.{deassign_fits}
@@ -12,15 +12,16 @@ unlink-requires-clause-x_live c = slot_taken c.self.inside.slots.items c.args.x 
 pub unlink-requires-clause-y_live : goal.unlink-requires-clause-y_live
 unlink-requires-clause-y_live c = slot_taken c.self.inside.slots.items c.args.y (rw (← c.self.view_is) at c.requires.y_live)
 
-pub invariant_of-self : goal.invariant_of-self
-invariant_of-self c =
+pub invariant_of-self-2 : goal.invariant_of-self-2
+invariant_of-self-2 c =
     let slots = c.self.inside.slots.items in
-    rw c.unlink.ensures
-    (Kept-unlinked slots c.self.inside.names.entries c.self.inside.live c.self.inside.links c.args.x c.args.y c.self.invariant
+    rw c.in_ok-unlink.ensures.ok
+    (Kept-unlinked slots c.self.inside.names.items c.self.inside.live c.self.inside.links c.args.x c.args.y c.self.invariant
     (deassign_fits (pairs_of slots) c.args.x c.args.y (rw (← c.self.view_is) at c.in_ok-check_deassign.ensures.fits)))
 
 pub returns-clause-ok : goal.returns-clause-ok
 returns-clause-ok c =
     let slots = c.self.inside.slots.items in
     rw (← c.self.view_is)
-    (same_table (ap shown c.unlink.ensures ∙ shown-unlinked c.args.x c.args.y slots) (ap pairs_of c.unlink.ensures ∙ pairs-unlinked c.args.x c.args.y slots))
+    (same_table (ap shown c.in_ok-unlink.ensures.ok ∙ shown-unlinked c.args.x c.args.y slots) (ap pairs_of c.in_ok-unlink.ensures.ok ∙ pairs-unlinked c.args.x c.args.y slots)
+    (ap (λ b. b && c.self.inside.names.alone) c.in_ok-unlink.ensures.alone))

@@ -22,21 +22,21 @@ overflow_sub-self-2 c =
     let from : c.containers-links.result ≡ length (parents_of (slot_at slots c.args.id)) = c.containers-links.ensures ∙ rw (← c.self.view_is) (count_held slots c.args.id) in
     omega (arith, from, length-from c.args.id slots, c.self.invariant.linked)
 
-pub invariant_of-self : goal.invariant_of-self
-invariant_of-self c =
+pub invariant_of-self-2 : goal.invariant_of-self-2
+invariant_of-self-2 c =
     let slots = c.self.inside.slots.items in
     let live = c.self.inside.live in
     let links = c.self.inside.links in
     let there : is_some (slot_at slots c.args.id) ≡ true = slot_taken slots c.args.id (rw (← c.self.view_is) at c.requires) in
     let none : has_child (pairs_of slots) c.args.id ≡ false = rw (← c.self.view_is) at (sym c.has_children.ensures ∙ c.if-has_children.false) in
     let from : c.containers-links.result ≡ length (parents_of (slot_at slots c.args.id)) = c.containers-links.ensures ∙ rw (← c.self.view_is) (count_held slots c.args.id) in
-    rw c.take_out.ensures.slots
-    (Kept-removed slots c.self.inside.names.entries c.take_out.new.names.entries live (live - 1) links (links - c.containers-links.result) c.args.id c.self.invariant there none c.take_out.ensures.names
+    rw c.in_ok-take_out.ensures.slots
+    (Kept-removed slots c.self.inside.names.items c.take_out.new.names.items live (live - 1) links (links - c.containers-links.result) c.args.id c.self.invariant there none c.in_ok-take_out.ensures.names
     (omega (arith, one_less c.args.id slots there, c.self.invariant.counted))
     (omega (arith, from, length-from c.args.id slots, c.self.invariant.linked)))
 
 pub returns-clause-elements : goal.returns-clause-elements
-returns-clause-elements c = rw (c.take_out.ensures.slots, ← c.self.view_is) (shown-removed c.args.id c.self.inside.slots.items)
+returns-clause-elements c = rw (c.in_ok-take_out.ensures.slots, ← c.self.view_is) (shown-removed c.args.id c.self.inside.slots.items)
 
 pub returns-clause-assigned : goal.returns-clause-assigned
-returns-clause-assigned c = rw (c.take_out.ensures.slots, ← c.self.view_is) (pairs-removed c.args.id c.self.inside.slots.items)
+returns-clause-assigned c = rw (c.in_ok-take_out.ensures.slots, ← c.self.view_is) (pairs-removed c.args.id c.self.inside.slots.items)

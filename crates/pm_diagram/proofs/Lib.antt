@@ -1,0 +1,2 @@
+mod Containing
+mod Drawing

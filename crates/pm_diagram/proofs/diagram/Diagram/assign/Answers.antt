@@ -1,0 +1,12 @@
+use Rattle.std.proofs.Common.{ap}
+use Rattle.pm_elements.specs.Listed.{Listed}
+use Rattle.pm_diagram.proofs.Drawing.{drawn-assigned}
+use Rattle.pm_diagram.proofs.diagram.Diagram.assign.Goals as goal
+
+pub invariant_of-self-2 : goal.invariant_of-self-2
+invariant_of-self-2 c =
+    let made = c.in_ok-assign.ensures.ok in
+    rw (ap (λ (v : Listed). v.elements) made, ap (λ (v : Listed). v.assigned) made)
+    (drawn-assigned c.self.inside.elements.elements c.self.inside.elements.assigned c.self.inside.rows.rows c.self.invariant c.args.x c.args.y
+    c.follow_assign.new.self.rows (rw (← c.self.view_is) at c.requires.x_live) (rw (← c.self.view_is) at c.requires.y_live)
+    (rw (c.in_ok-prepare.ensures.rows) at c.follow_assign.ensures.rows))

@@ -1,0 +1,168 @@
+//! Making ready: all memory that following a step needs is taken before anything is written.
+
+ghost use Rattle.std.specs.Prelude.{◌≡◌, ℕ, ◌<◌, true, length, OnOk, IfOk};
+ghost use Rattle.pm_search.specs.Marks.{NoneMarked};
+ghost use Rattle.pm_reach.specs.Words.{in_row};
+ghost use Rattle.pm_reach.specs.Rows.{has, below};
+ghost use Rattle.pm_reach.specs.Table.{IsReady};
+ghost use Rattle.pm_reach.specs.NewRows.{made_below};
+ghost use Rattle.pm_reach.specs.Changes.{CanFollow};
+ghost use Rattle.pm_reach.specs.Passes.{AreContainers, Spans};
+ghost use Rattle.pm_reach.specs.Ready.{step_of, IsTaken};
+ghost use Rattle.pm_reach.specs.declared.step.Step.{Step};
+
+use crate::containers::{Containers, Span, span_of};
+use crate::step::Step;
+use crate::table::{NewRow, RowTable};
+use crate::words::row_with;
+use pm_model::{ElementId, Memory};
+use std::alloc::Global;
+
+/// A step that is ready to be followed, with the memory that was taken for it.
+#[derive(Drop)]
+pub(crate) enum Ready {
+    Make {
+        x: ElementId,
+        into: Option<ElementId>,
+        /// The row of x.
+        row: NewRow,
+    },
+    Assign {
+        x: ElementId,
+        y: ElementId,
+        span: Span,
+        /// What the row of y has.
+        other: Vec<u64>,
+    },
+    Deassign {
+        x: ElementId,
+        y: ElementId,
+        span: Span,
+        /// For a search from each element that is contained in x.
+        marks: Vec<bool>,
+        queue: Vec<u32>,
+    },
+    Remove {
+        x: ElementId,
+    },
+}
+
+/// Makes a step ready to be followed.
+pub(crate) fn make_ready(
+    table: &mut RowTable,
+    containers: &Containers,
+    step: Step,
+) -> Result<Ready, Memory>
+    requires possible { CanFollow table.old.rows step }
+    requires containers { AreContainers table.old.rows containers.now }
+    ensures rows { table.new.rows ≡ table.old.rows }
+    ensures step { IfOk result (λ ready. step_of ready ≡ step) }
+    ensures taken { IfOk result (λ ready. IsTaken table.new ready) }
+{
+    match step {
+        Step::Make { x, into } => ready_make(table, x, into),
+        Step::Assign { x, y } => ready_assign(table, containers, x, y),
+        Step::Deassign { x, y } => ready_deassign(table, containers, x, y),
+        Step::Remove { x } => ready_remove(table, x),
+    }
+}
+
+/// The row of a new element: itself, and what the row of the container has.
+fn row_of(table: &RowTable, x: u32, into: &Option<ElementId>) -> Result<Vec<u64>, Memory>
+    ensures { IfOk result (λ words. (q : ℕ) → in_row words.items q ≡ made_below table.now.rows x into.now q) }
+{
+    match into {
+        Some(y) => row_with(table.alloc(), x, table.words(y.number())),
+        None => row_with(table.alloc(), x, &[]),
+    }
+}
+
+fn ready_make(table: &mut RowTable, x: ElementId, into: Option<ElementId>) -> Result<Ready, Memory>
+    requires { CanFollow table.old.rows (Step.Make x into) }
+    ensures rows { table.new.rows ≡ table.old.rows }
+    ensures step { IfOk result (λ ready. step_of ready ≡ Step.Make x into) }
+    ensures taken { IfOk result (λ ready. IsTaken table.new ready) }
+{
+    let words = row_of(table, x.number(), &into)?;
+    let row = table.ready_new(x.number(), words)?;
+    Ok(Ready::Make { x, into, row })
+}
+
+fn ready_assign(
+    table: &mut RowTable,
+    containers: &Containers,
+    x: ElementId,
+    y: ElementId,
+) -> Result<Ready, Memory>
+    requires { AreContainers table.old.rows containers.now }
+    ensures rows { table.new.rows ≡ table.old.rows }
+    ensures step { IfOk result (λ ready. step_of ready ≡ Step.Assign x y) }
+    ensures taken { IfOk result (λ ready. IsTaken table.new ready) }
+{
+    let other = Vec::from_slice(table.alloc(), table.words(y.number()))?;
+    let span = span_of(table, containers, x.number());
+    ready_all(table, x.number(), span, other.len())?;
+    Ok(Ready::Assign { x, y, span, other })
+}
+
+pub(crate) fn ready_deassign(
+    table: &mut RowTable,
+    containers: &Containers,
+    x: ElementId,
+    y: ElementId,
+) -> Result<Ready, Memory>
+    requires { AreContainers table.old.rows containers.now }
+    ensures rows { table.new.rows ≡ table.old.rows }
+    ensures step { IfOk result (λ ready. step_of ready ≡ Step.Deassign x y) }
+    ensures taken { IfOk result (λ ready. IsTaken table.new ready) }
+{
+    let size = table.len();
+    let marks = no_marks(table.alloc(), size)?;
+    let queue = no_numbers(table.alloc(), size)?;
+    let span = span_of(table, containers, x.number());
+    ready_all(table, x.number(), span, 0)?;
+    Ok(Ready::Deassign {
+        x,
+        y,
+        span,
+        marks,
+        queue,
+    })
+}
+
+fn ready_remove(table: &mut RowTable, x: ElementId) -> Result<Ready, Memory>
+    requires { has table.old.rows x ≡ true }
+    ensures rows { table.new.rows ≡ table.old.rows }
+    ensures step { IfOk result (λ ready. step_of ready ≡ Step.Remove x) }
+    ensures taken { IfOk result (λ ready. IsTaken table.new ready) }
+{
+    table.open(x.number())?;
+    Ok(Ready::Remove { x })
+}
+
+/// Makes room for so many words in the row of each element that is contained in x.
+fn ready_all(table: &mut RowTable, x: u32, span: Span, n: usize) -> Result<(), Memory>
+    requires { Spans table.old.rows x span.low span.high }
+    ensures rows { table.new.rows ≡ table.old.rows }
+    ensures ready { OnOk result ((z : ℕ) → below table.old.rows z x ≡ true → IsReady table.new z n) }
+{
+    for z in span.low..span.high {
+        if table.has(z, x) {
+            table.ready(z, n)?;
+        }
+    }
+    Ok(())
+}
+
+fn no_marks(alloc: Global, size: usize) -> Result<Vec<bool>, Memory>
+    ensures long { IfOk result (λ marks. length marks.items ≡ size) }
+    ensures none { IfOk result (λ marks. NoneMarked marks.items) }
+{
+    Ok(vec![in alloc; false; size]?)
+}
+
+fn no_numbers(alloc: Global, size: usize) -> Result<Vec<u32>, Memory>
+    ensures { IfOk result (λ numbers. length numbers.items ≡ size) }
+{
+    Ok(vec![in alloc; 0; size]?)
+}
