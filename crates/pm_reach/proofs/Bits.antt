@@ -6,7 +6,7 @@ use Rattle.std.specs.List.{list_any}
 use Rattle.std.proofs.lemmas.Nat.Bits.{bit_at_or, bit_at_set_same, bit_at_set_other, bit_at-zero}
 use Rattle.std.proofs.lemmas.Bool.{cases_lt, cases_eq, eq-eqb, false_from_ne_true, eqb-true, true≢false}
 use Rattle.std.proofs.lemmas.Bool.Decides.{eqb_tells}
-use Rattle.std.proofs.lemmas.List.{get_or_past, get_or-set_same, get_or-set_other, get_or-replicate, length-replicate, get_or-take}
+use Rattle.std.proofs.lemmas.List.{get_or_past, get_or-set_same, get_or-set_other, get_or-replicate, length-replicate, get_or-take, length-take-le}
 use Rattle.std.proofs.lemmas.List.Folds.{list_any_more}
 use Rattle.std.proofs.Math.Nat.{mod-lt, div-add-mod}
 use Rattle.pm_reach.specs.Words.{in_row}
@@ -123,3 +123,16 @@ zero_less words n h y = same_words (take n words) words (λ k. elim (cases_lt k 
   past (x ∷ xs) zero k l = refl
   past (x ∷ xs) (suc n) zero l = absurd (omega arith)
   past (x ∷ xs) (suc n) (suc k) l = past xs n k (omega arith)
+
+-- words behind all that the row has add nothing
+pub words_within : (words : List ℕ) (m n : ℕ) → n ≤ length words → ((k : ℕ) → k < m → k < length words → k < n) →
+    ((y : ℕ) → in_row words y ≡ true → y < 64 * m) → (y : ℕ) → in_row (take n words) y ≡ in_row words y
+words_within words m n short long within y = elim (cases_lt (y / 64) n) [
+  | inl l ↦ rw (get_or-take n words (y / 64) 0 l) refl
+  | inr l ↦ past_row (take n words) y (omega (arith, l, length-take-le n words short)) ∙ sym (none (in_row words y) refl l)
+] where
+  none : (b : Bool) → in_row words y ≡ b → n ≤ y / 64 → b ≡ false
+  none false e l = refl
+  none true e l =
+      let below : y / 64 < n = long (y / 64) (omega (arith, within y e)) (omega (arith, within_row words y e)) in
+      absurd (omega arith)

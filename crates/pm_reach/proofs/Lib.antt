@@ -1,4 +1,5 @@
 pub mod Bits
+pub mod Gathering
 pub mod Making
 pub mod Openings
 pub mod Orders

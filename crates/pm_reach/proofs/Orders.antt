@@ -267,6 +267,12 @@ pub less-contained : (assigned : List (ℕ × ℕ)) (rows : List (List (Option (
     (z q : ℕ) → has rows z ≡ true → contained assigned z q ≡ true → below rows z q ≡ true
 less-contained assigned rows x y was z q h k = was z q h ∙ contained-more (x, y) assigned z q k
 
+-- rows of what isn't contained in x tell already
+pub outside-told : (assigned : List (ℕ × ℕ)) (rows : List (List (Option (List ℕ)))) (x y : ℕ) → TellContainment ((x, y) ∷ assigned) rows →
+    (p q : ℕ) → has rows p ≡ true → below rows p x ≡ false → below rows p q ≡ contained assigned p q
+outside-told assigned rows x y was p q h e =
+    was p q h ∙ outside-kept assigned x y p q (sym (at-itself assigned x y p) ∙ sym (was p x h) ∙ e)
+
 pub deassigns : (assigned : List (ℕ × ℕ)) (old new : List (List (Option (List ℕ)))) (x y written : ℕ) → TellContainment ((x, y) ∷ assigned) old →
     Rewrites x (contained assigned) old new written → Deassigns x assigned old new
 deassigns assigned old new x y written was r = record {
@@ -277,4 +283,4 @@ deassigns assigned old new x y written was r = record {
   go : (p q : ℕ) → has old p ≡ true → (b : Bool) → below old p x ≡ b → below new p q ≡ contained assigned p q
   go p q h true e = r.within p e q
   go p q h false e =
-      ap (λ o. row_has o q) (r.others p e) ∙ was p q h ∙ outside-kept assigned x y p q (sym (at-itself assigned x y p) ∙ sym (was p x h) ∙ e)
+      ap (λ o. row_has o q) (r.others p e) ∙ outside-told assigned old x y was p q h e

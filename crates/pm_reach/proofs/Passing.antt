@@ -58,7 +58,7 @@ Passed-none {x} {low = low} {old = old} spans ready = record {
     go false e = refl
     go true e = let from : low ≤ p = spans.from p e in absurd (omega arith)
 
-same_below : {o o' : Option (List ℕ)} → o ≡ o' → (q : ℕ) → row_has o q ≡ row_has o' q
+pub same_below : {o o' : Option (List ℕ)} → o ≡ o' → (q : ℕ) → row_has o q ≡ row_has o' q
 same_below e q = ap (λ o. row_has o q) e
 
 pub Passed-yes : {x n : ℕ} {made : ℕ → ℕ → Bool} {old now new : Table} {z written : ℕ} → Passed x n made old now z written →

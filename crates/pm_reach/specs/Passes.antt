@@ -1,5 +1,6 @@
 -- A pass over the rows, which writes the row of each element that is contained in x.
-use Rattle.std.specs.Prelude.{◌≡◌, ◌<◌, ◌≤◌, ◌==◌, ℕ, Bool, true, false, List, Option, None, Some}
+use Rattle.std.specs.Prelude.{◌≡◌, ◌<◌, ◌≤◌, ◌==◌, ◌*◌, ℕ, Bool, true, false, List, Option, None, Some}
+use Rattle.pm_model.specs.Containment.{contained}
 use Rattle.pm_reach.specs.Words.{in_row}
 use Rattle.pm_reach.specs.Rows.{place_at, has, below, count_of, inside, most}
 use Rattle.pm_reach.specs.Table.{Table, IsReady}
@@ -35,3 +36,13 @@ pub record Passed (x n : ℕ) (made : ℕ → ℕ → Bool) (old now : Table) (z
   pub live : (p : ℕ) → has now.rows p ≡ has old.rows p
   pub ready : (p : ℕ) → z ≤ p → below old.rows p x ≡ true → IsReady now p n
   pub count : written ≡ count_of (λ p. below old.rows p x) z
+
+-- while the row of z is made anew, the rows of smaller numbers and those of what isn't contained in x tell the
+-- containment that these assignments make
+pub record TellSoFar (assigned : List (ℕ × ℕ)) (rows : List (List (Option (List ℕ)))) (x z : ℕ) : Type 0 where
+  pub before : (w q : ℕ) → has rows w ≡ true → w < z → below rows w q ≡ contained assigned w q
+  pub outside : (w q : ℕ) → has rows w ≡ true → below rows w x ≡ false → below rows w q ≡ contained assigned w q
+
+-- all that the rows have is below 64 n
+abbrev pub AreWithin : ℕ → List (List (Option (List ℕ))) → Type 0
+AreWithin n rows = (p q : ℕ) → below rows p q ≡ true → q < 64 * n

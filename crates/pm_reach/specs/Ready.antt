@@ -1,5 +1,5 @@
 -- A step that is ready to be followed: all memory that it needs is there.
-use Rattle.std.specs.Prelude.{◌≡◌, ◌<◌, ℕ, Bool, true, List, length, Option, Some, None, is_some, ⊤}
+use Rattle.std.specs.Prelude.{◌≡◌, ◌<◌, ◌*◌, ℕ, Bool, true, List, length, Option, Some, None, is_some, ⊤}
 use Rattle.pm_search.specs.Marks.{NoneMarked}
 use Rattle.pm_reach.specs.Words.{in_row}
 use Rattle.pm_reach.specs.Rows.{row_has, has, below}
@@ -24,24 +24,25 @@ pub record AssignReady (t : Table) (x y : ℕ) (span : Span) (other : List ℕ) 
   pub rows : (z : ℕ) → below t.rows z x ≡ true → IsReady t z (length other)
   pub same : (q : ℕ) → in_row other q ≡ below t.rows y q
 
-pub record DeassignReady (t : Table) (x : ℕ) (span : Span) (marks : List Bool) (queue : List ℕ) : Type 0 where
+pub record DeassignReady (t : Table) (x : ℕ) (span : Span) (marks : List Bool) (queue row : List ℕ) : Type 0 where
   pub spans : Spans t.rows x span.low span.high
   pub rows : (z : ℕ) → below t.rows z x ≡ true → IsReady t z 0
   pub none : NoneMarked marks
   pub fits : (w : ℕ) → has t.rows w ≡ true → w < length marks
   pub as_long : length queue ≡ length marks
+  pub wide : (w : ℕ) → has t.rows w ≡ true → w < 64 * length row
 
 abbrev pub step_of : Ready → Step
 step_of (ready.Make x into row) = step.Make x into
 step_of (ready.Assign x y span other) = step.Assign x y
-step_of (ready.Deassign x y span marks queue) = step.Deassign x y
+step_of (ready.Deassign x y span marks queue row) = step.Deassign x y
 step_of (ready.Remove x) = step.Remove x
 
 -- the memory for the step is there
 abbrev pub IsTaken : Table → Ready → Type 0
 IsTaken t (ready.Make x into row) = MakeReady t x into row
 IsTaken t (ready.Assign x y span other) = AssignReady t x y span other.items
-IsTaken t (ready.Deassign x y span marks queue) = DeassignReady t x span marks.items queue.items
+IsTaken t (ready.Deassign x y span marks queue row) = DeassignReady t x span marks.items queue.items row.items
 IsTaken t (ready.Remove x) = IsOpen t x
 
 -- where a step is ready, rows can follow it, and the memory for it is there

@@ -1,7 +1,6 @@
 //! A page: the rows of 64 numbers. It ends behind its last row.
 
 ghost use Rattle.std.specs.Prelude.{◌≡◌, ◌≢◌, ℕ, ◌<◌, ◌≤◌, ◌==◌, ◌||◌, [], true, false, None, Some, length, slice_set, vec_len, vec_capacity, option_map, is_some, IfOk, IfErr, OnOk, OnErr, IsSome};
-ghost use Rattle.std.specs.List.{list_any};
 ghost use Rattle.std.specs.Option.{option_copied};
 ghost use Rattle.pm_reach.specs.Words.{in_row};
 ghost use Rattle.pm_reach.specs.Rows.{option_at, row_has};
@@ -143,16 +142,16 @@ pub(crate) fn join_row(rows: &mut Vec<Option<Held<Row>>>, j: usize, other: &[u64
     put_row(rows, j, Held::Own(row));
 }
 
-/// Lets the row at a place have these numbers, which it has already, and no others.
-pub(crate) fn rewrite_row(rows: &mut Vec<Option<Held<Row>>>, j: usize, numbers: &[u32])
+/// Lets the row at a place have what another row has, which it has already, and nothing else.
+pub(crate) fn overwrite_row(rows: &mut Vec<Option<Held<Row>>>, j: usize, other: &[u64])
     requires ready { HasRoom (option_at (spare rows.old.items) j) 0 }
-    requires less { (q : ℕ) → list_any (λ n. n == q) numbers.now ≡ true → row_has (option_at (shown rows.old.items) j) q ≡ true }
-    ensures row { (q : ℕ) → row_has (option_at (shown rows.new.items) j) q ≡ list_any (λ n. n == q) numbers.now }
+    requires less { (q : ℕ) → in_row other.now q ≡ true → row_has (option_at (shown rows.old.items) j) q ≡ true }
+    ensures row { (q : ℕ) → row_has (option_at (shown rows.new.items) j) q ≡ in_row other.now q }
     ensures live { is_some (option_at rows.new.items j) ≡ true }
     ensures others { (i : ℕ) → i ≢ j → option_at rows.new.items i ≡ option_at rows.old.items i }
 {
     let mut row = take_own(rows, j);
-    words::rewrite(&mut row.words, numbers);
+    words::overwrite(&mut row.words, other);
     put_row(rows, j, Held::Own(row));
 }
 

@@ -1,6 +1,6 @@
 //! Making ready: all memory that following a step needs is taken before anything is written.
 
-ghost use Rattle.std.specs.Prelude.{◌≡◌, ℕ, ◌<◌, true, length, OnOk, IfOk};
+ghost use Rattle.std.specs.Prelude.{◌≡◌, ℕ, ◌<◌, ◌≤◌, ◌*◌, true, length, OnOk, IfOk};
 ghost use Rattle.pm_search.specs.Marks.{NoneMarked};
 ghost use Rattle.pm_reach.specs.Words.{in_row};
 ghost use Rattle.pm_reach.specs.Rows.{has, below};
@@ -41,6 +41,8 @@ pub(crate) enum Ready {
         /// For a search from each element that is contained in x.
         marks: Vec<bool>,
         queue: Vec<u32>,
+        /// For the row of each of them in turn.
+        row: Vec<u64>,
     },
     Remove {
         x: ElementId,
@@ -119,6 +121,7 @@ pub(crate) fn ready_deassign(
     let size = table.len();
     let marks = no_marks(table.alloc(), size)?;
     let queue = no_numbers(table.alloc(), size)?;
+    let row = no_words(table.alloc(), size)?;
     let span = span_of(table, containers, x.number());
     ready_all(table, x.number(), span, 0)?;
     Ok(Ready::Deassign {
@@ -127,6 +130,7 @@ pub(crate) fn ready_deassign(
         span,
         marks,
         queue,
+        row,
     })
 }
 
@@ -165,4 +169,10 @@ fn no_numbers(alloc: Global, size: usize) -> Result<Vec<u32>, Memory>
     ensures { IfOk result (λ numbers. length numbers.items ≡ size) }
 {
     Ok(vec![in alloc; 0; size]?)
+}
+
+fn no_words(alloc: Global, size: usize) -> Result<Vec<u64>, Memory>
+    ensures { IfOk result (λ words. size ≤ 64 * length words.items) }
+{
+    Ok(vec![in alloc; 0; size / 64 + 1]?)
 }

@@ -2,7 +2,6 @@
 
 ghost use Rattle.std.specs.Prelude.{◌≡◌, ◌≢◌, ℕ, ◌<◌, ◌≤◌, ◌+◌, ◌==◌, ◌||◌, ◌/◌, [], true, false, None, Some, length, map, slice_get, slice_set, vec_len, vec_capacity, is_some, IfOk, IfErr, OnOk, OnErr, ◌*◌};
 ghost use Rattle.std.specs.Int.{bit_at};
-ghost use Rattle.std.specs.List.{list_any};
 ghost use Rattle.std.specs.Option.{option_copied};
 ghost use Rattle.pm_reach.specs.Words.{in_row};
 ghost use Rattle.pm_reach.specs.Rows.{place_at, has, below, most};
@@ -13,8 +12,8 @@ ghost use Rattle.pm_reach.specs.declared.page.Page.{Page};
 
 use crate::held::{Held, read, shared};
 use crate::page::{
-    Page, clear_row, copy_rows, find_row, join_row, page_with, place_row, ready_row, reserve_place,
-    rewrite_row, share_rows,
+    Page, clear_row, copy_rows, find_row, join_row, overwrite_row, page_with, place_row, ready_row,
+    reserve_place, share_rows,
 };
 use crate::words;
 use pm_model::Memory;
@@ -184,17 +183,17 @@ fn join_at(pages: &mut Vec<Held<Page>>, x: u32, other: &[u64])
     put_page(pages, k, Held::Own(page));
 }
 
-/// Lets the row of x have these numbers, which it has already, and no others.
-fn rewrite_at(pages: &mut Vec<Held<Page>>, x: u32, numbers: &[u32])
+/// Lets the row of x have what another row has, which it has already, and nothing else.
+fn overwrite_at(pages: &mut Vec<Held<Page>>, x: u32, other: &[u64])
     requires ready { IsReady (tabled pages.old) x 0 }
-    requires less { (q : ℕ) → list_any (λ n. n == q) numbers.now ≡ true → below (map page_rows pages.old.items) x q ≡ true }
+    requires less { (q : ℕ) → in_row other.now q ≡ true → below (map page_rows pages.old.items) x q ≡ true }
     ensures long { vec_len pages.new ≡ vec_len pages.old }
-    ensures row { (q : ℕ) → below (map page_rows pages.new.items) x q ≡ list_any (λ n. n == q) numbers.now }
+    ensures row { (q : ℕ) → below (map page_rows pages.new.items) x q ≡ in_row other.now q }
     ensures writes { Writes x (tabled pages.old) (tabled pages.new) }
 {
     let k = x as usize / 64;
     let mut page = take_page(pages, k);
-    rewrite_row(&mut page.rows, x as usize % 64, numbers);
+    overwrite_row(&mut page.rows, x as usize % 64, other);
     put_page(pages, k, Held::Own(page));
 }
 
@@ -441,14 +440,14 @@ impl RowTable {
         join_at(&mut self.pages, x, other);
     }
 
-    /// Lets the row of x have these numbers, which it has already, and no others.
-    pub(crate) fn rewrite(&mut self, x: u32, numbers: &[u32])
+    /// Lets the row of x have what another row has, which it has already, and nothing else.
+    pub(crate) fn overwrite(&mut self, x: u32, other: &[u64])
         requires ready { IsReady self.old x 0 }
-        requires less { (q : ℕ) → list_any (λ n. n == q) numbers.now ≡ true → below self.old.rows x q ≡ true }
-        ensures row { (q : ℕ) → below self.new.rows x q ≡ list_any (λ n. n == q) numbers.now }
+        requires less { (q : ℕ) → in_row other.now q ≡ true → below self.old.rows x q ≡ true }
+        ensures row { (q : ℕ) → below self.new.rows x q ≡ in_row other.now q }
         ensures writes { Writes x self.old self.new }
     {
-        rewrite_at(&mut self.pages, x, numbers);
+        overwrite_at(&mut self.pages, x, other);
     }
 
     /// Makes a row for x, which the table can be given without memory.

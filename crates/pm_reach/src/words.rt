@@ -8,7 +8,7 @@ ghost use Rattle.pm_reach.specs.Words.{in_row};
 
 use pm_model::Memory;
 use std::alloc::Global;
-use std::cmp::max;
+use std::cmp::{max, min};
 
 /// Whether the row has y.
 #[tactic(auto, using(crate::proofs::Bits::past_row))]
@@ -31,11 +31,22 @@ pub(crate) fn word(words: &[u64], k: u32) -> u64
 /// Puts what the other row has into this one, which is at least as long.
 fn unite(into: &mut [u64], from: &[u64])
     requires { length from.now ≤ length into.old }
-    ensures { (y : ℕ) → in_row into.new y ≡ (in_row into.old y || in_row from.now y) }
+    ensures row { (y : ℕ) → in_row into.new y ≡ (in_row into.old y || in_row from.now y) }
+    ensures long { length into.new ≡ length into.old }
 {
     for i in 0..from.len() {
         into[i] |= from[i];
     }
+}
+
+/// Puts what the other row has into this one, which has words for all of it.
+pub(crate) fn unite_within(into: &mut [u64], from: &[u64])
+    requires { (y : ℕ) → in_row from.now y ≡ true → y < 64 * length into.old }
+    ensures row { (y : ℕ) → in_row into.new y ≡ (in_row into.old y || in_row from.now y) }
+    ensures long { length into.new ≡ length into.old }
+{
+    let n = min(into.len(), from.len());
+    unite(into, &from[..n]);
 }
 
 /// Puts y into the row.
@@ -48,10 +59,11 @@ pub(crate) fn set_bit(words: &mut [u64], y: u32)
 }
 
 /// Puts these numbers into an empty row.
-fn put(words: &mut [u64], numbers: &[u32])
+pub(crate) fn put(words: &mut [u64], numbers: &[u32])
     requires fits { (q : ℕ) → list_any (λ n. n == q) numbers.now ≡ true → q < 64 * length words.old }
     requires none { (q : ℕ) → in_row words.old q ≡ false }
-    ensures { (q : ℕ) → in_row words.new q ≡ list_any (λ n. n == q) numbers.now }
+    ensures row { (q : ℕ) → in_row words.new q ≡ list_any (λ n. n == q) numbers.now }
+    ensures long { length words.new ≡ length words.old }
 {
     for n in numbers {
         set_bit(words, *n);
@@ -60,7 +72,7 @@ fn put(words: &mut [u64], numbers: &[u32])
 
 /// Empties the row, and leaves its words.
 #[tactic(auto, using(crate::proofs::Bits::bit_none))]
-fn empty(words: &mut [u64])
+pub(crate) fn empty(words: &mut [u64])
     ensures long { length words.new ≡ length words.old }
     ensures none { (q : ℕ) → in_row words.new q ≡ false }
 {
@@ -110,13 +122,13 @@ pub(crate) fn join(words: &mut Vec<u64>, other: &[u64])
     unite(words.as_mut_slice(), other);
 }
 
-/// Makes the row have these numbers, which it has already, and no others.
-pub(crate) fn rewrite(words: &mut Vec<u64>, numbers: &[u32])
-    requires { (q : ℕ) → list_any (λ n. n == q) numbers.now ≡ true → in_row words.old.items q ≡ true }
-    ensures { (q : ℕ) → in_row words.new.items q ≡ list_any (λ n. n == q) numbers.now }
+/// Makes the row have what the other row has, which it has already, and nothing else.
+pub(crate) fn overwrite(words: &mut Vec<u64>, other: &[u64])
+    requires { (q : ℕ) → in_row other.now q ≡ true → in_row words.old.items q ≡ true }
+    ensures { (q : ℕ) → in_row words.new.items q ≡ in_row other.now q }
 {
     empty(words.as_mut_slice());
-    put(words.as_mut_slice(), numbers);
+    unite_within(words.as_mut_slice(), other);
     trim(words);
 }
 

@@ -3,5 +3,5 @@ use Rattle.std.proofs.Common.{arith}
 use Rattle.pm_reach.proofs.Bits.{joined_words}
 use Rattle.pm_reach.proofs.words.unite.Goals as goal
 
-pub returns : goal.returns
-returns c = joined_words c.args.into.now c.args.from.now c.loop-i.into c.loop-i.i (omega arith) c.loop-i.invariant.joined c.loop-i.invariant.rest
+pub returns-clause-row : goal.returns-clause-row
+returns-clause-row c = joined_words c.args.into.now c.args.from.now c.loop-i.into c.loop-i.i (omega arith) c.loop-i.invariant.joined c.loop-i.invariant.rest
