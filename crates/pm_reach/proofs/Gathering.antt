@@ -1,9 +1,8 @@
 -- A row put together from those of the containers.
-use Rattle.std.proofs.Common.{◌≡◌, ◌≢◌, ℕ, zero, suc, ◌+◌, ◌*◌, ◌<◌, ◌≤◌, Bool, true, false, not, nat_lt, List, [], ◌∷◌, length, get_or, take, Option, Contains, IsTrue, ◌⊎◌, inl, inr, refl, sym, ap, ◌∙◌, ◌||◌, ◌==◌, arith}
+use Rattle.std.proofs.Common.{◌≡◌, ℕ, suc, ◌+◌, ◌*◌, ◌<◌, Bool, true, false, not, nat_lt, List, [], ◌∷◌, length, get_or, take, Option, Contains, ◌⊎◌, inl, inr, refl, sym, ap, ◌∙◌, ◌||◌, ◌==◌, arith}
 use Rattle.std.specs.List.{list_any}
 use Rattle.std.proofs.lemmas.Bool.{cases_lt, true≢false, false≢true, eq-eqb, eqb-true, le-ltb}
 use Rattle.std.proofs.lemmas.List.Folds.{list_any_at, list_any_more}
-use Rattle.std.proofs.lemmas.Grind.{get_or_default_zero}
 use Rattle.pm_model.specs.Containment.{contained, containers, Leads, IsContained}
 use Rattle.pm_model.proofs.ContainmentLaws.{contained-itself, contained-trans, contained-pair, contained-from_path, path-from_contained, contains-containers, containers-contains}
 use Rattle.pm_reach.specs.Words.{in_row}

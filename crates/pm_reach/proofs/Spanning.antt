@@ -1,6 +1,6 @@
 -- Among which numbers all is that is contained in an element, and what changes leave of the set of those that contain
 -- something else.
-use Rattle.std.proofs.Common.{◌≡◌, ◌≤◌, ◌<◌, ◌+◌, ℕ, Bool, true, false, List, ◌∷◌, Option, Some, None, IfSome, sym, ◌∙◌, ◌||◌, ◌&&◌, ◌==◌, inl, inr, arith}
+use Rattle.std.proofs.Common.{◌≡◌, ◌≤◌, ◌<◌, ◌+◌, ℕ, true, false, List, ◌∷◌, Option, Some, None, IfSome, sym, ◌∙◌, ◌||◌, ◌&&◌, ◌==◌, inl, inr, arith}
 use Rattle.std.proofs.lemmas.Bool.{true≢false, eqb-true, eq-eqb, or_parts}
 use Rattle.pm_reach.specs.Words.{in_row}
 use Rattle.pm_reach.specs.Rows.{has, below, most}

@@ -71,13 +71,7 @@ fn gather<P: Parents>(table: &RowTable, x: u32, z: u32, parents: &P, row: &mut [
 }
 
 /// Puts what z is contained in into the row, by a search.
-fn search<P: Parents>(
-    z: u32,
-    parents: &P,
-    marks: &mut [bool],
-    queue: &mut [u32],
-    row: &mut [u64],
-)
+fn search<P: Parents>(z: u32, parents: &P, marks: &mut [bool], queue: &mut [u32], row: &mut [u64])
     requires live { IsTrue (P.live parents.now z) }
     requires fits { (w : ℕ) → IsTrue (P.live parents.now w) → w < length marks.old }
     requires as_long { length queue.old ≡ length marks.old }

@@ -17,6 +17,7 @@ use crate::table::{NewRow, RowTable};
 use crate::words::row_with;
 use pm_model::{ElementId, Memory};
 use std::alloc::Global;
+use std::cmp::min;
 
 /// A step that is ready to be followed, with the memory that was taken for it.
 #[derive(Drop)]
@@ -103,7 +104,7 @@ fn ready_assign(
 {
     let other = Vec::from_slice(table.alloc(), table.words(y.number()))?;
     let span = span_of(table, containers, x.number());
-    ready_all(table, x.number(), span, other.len())?;
+    let span = ready_all(table, x.number(), span, other.len())?;
     Ok(Ready::Assign { x, y, span, other })
 }
 
@@ -123,7 +124,7 @@ pub(crate) fn ready_deassign(
     let queue = no_numbers(table.alloc(), size)?;
     let row = no_words(table.alloc(), size)?;
     let span = span_of(table, containers, x.number());
-    ready_all(table, x.number(), span, 0)?;
+    let span = ready_all(table, x.number(), span, 0)?;
     Ok(Ready::Deassign {
         x,
         y,
@@ -144,18 +145,28 @@ fn ready_remove(table: &mut RowTable, x: ElementId) -> Result<Ready, Memory>
     Ok(Ready::Remove { x })
 }
 
-/// Makes room for so many words in the row of each element that is contained in x.
-fn ready_all(table: &mut RowTable, x: u32, span: Span, n: usize) -> Result<(), Memory>
+/// Makes room for so many words in the row of each element that is contained in x. Answers a span of
+/// these that begins with the first of them and ends behind the last.
+fn ready_all(table: &mut RowTable, x: u32, span: Span, n: usize) -> Result<Span, Memory>
     requires { Spans table.old.rows x span.low span.high }
     ensures rows { table.new.rows ≡ table.old.rows }
+    ensures spans { IfOk result (λ found. Spans table.old.rows x found.low found.high) }
     ensures ready { OnOk result ((z : ℕ) → below table.old.rows z x ≡ true → IsReady table.new z n) }
 {
+    let mut found = Span {
+        low: span.high,
+        high: span.high,
+    };
     for z in span.low..span.high {
         if table.has(z, x) {
             table.ready(z, n)?;
+            found = Span {
+                low: min(found.low, z),
+                high: z + 1,
+            };
         }
     }
-    Ok(())
+    Ok(found)
 }
 
 fn no_marks(alloc: Global, size: usize) -> Result<Vec<bool>, Memory>

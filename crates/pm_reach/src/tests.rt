@@ -175,6 +175,29 @@ fn rows_beside_paths(rt: HostRuntime) {
     }
 }
 
+// 62 and 65 have a container with a higher number, whose row is made anew after theirs.
+#[test]
+fn rows_of_elements_below_their_containers(rt: HostRuntime) {
+    let alloc = rt.alloc();
+    let mut graph = unassigned(&rt, alloc);
+    for (x, y) in [
+        (70, 60),
+        (65, 70),
+        (75, 65),
+        (62, 70),
+        (62, 61),
+        (66, 60),
+        (60, 79),
+    ] {
+        graph = assigned(&rt, graph, x, y);
+    }
+    assert!(rt; is_in(&graph, 75, 79));
+    for step in 0..7 {
+        graph = deassigned(&rt, graph);
+        compare(&rt, alloc, &graph, step);
+    }
+}
+
 fn add(rt: &impl Abort, rows: &mut ReachRows, x: u8) {
     assert!(rt; !rows.live(id(x)));
     rows.on_add(id(x)).expect(rt, "memory");

@@ -16,8 +16,8 @@ loop-i-preserved g c =
           (get_or_from_slice_get all c.loop-i.i c.parent.result 0 c.parent.ensures.answer)
           c.loop-i.invariant.held c.unite_within.ensures.row
           (λ q. c.words.ensures q
-              ∙ rw c.number-w.ensures (final-tells assigned c.args.table.now.rows c.args.x c.args.z c.parent.result c.requires.told
-                  (c.requires.rows c.parent.result c.parent.ensures.live) (rw c.number-w.ensures at c.if-not-is_final.ensures) q));
+          ∙ rw c.number-w.ensures (final-tells assigned c.args.table.now.rows c.args.x c.args.z c.parent.result c.requires.told
+          (c.requires.rows c.parent.result c.parent.ensures.live) (rw c.number-w.ensures at c.if-not-is_final.ensures) q));
     }
 
 pub returns-clause-row : goal.returns-clause-row
