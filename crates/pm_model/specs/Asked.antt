@@ -48,10 +48,14 @@ if_short n = if nat_lt n (2 ^ 32) then Some n else None
 abbrev pub short_form : Data → Option ℕ
 short_form d = option_and_then if_short (whole_form d)
 
+-- a list of what has a form
+abbrev pub list_of : {A : Type 0} → (Data → Option A) → Items → Option (List A)
+list_of form no_items = Some []
+list_of form (item d ds) = option_and_then (λ x. option_map (λ xs. x ∷ xs) (list_of form ds)) (form d)
+
 -- a list of names
 abbrev pub names_of : Items → Option (List (List ℕ))
-names_of no_items = Some []
-names_of (item d ds) = option_and_then (λ n. option_map (λ ns. n ∷ ns) (names_of ds)) (name_form d)
+names_of ds = list_of name_form ds
 
 -- a list without its repeats: its first name, and then the others
 abbrev pub distinct : List (List ℕ) → List (List ℕ)
@@ -59,11 +63,15 @@ distinct [] = []
 distinct (n ∷ ns) = n ∷ filter (λ m. not (bytes_eq n m)) (distinct ns)
 
 abbrev pub if_some_few : List (List ℕ) → Option (List (List ℕ))
-if_some_few ns = if nat_lt 0 (length ns) && nat_le (length ns) 32 then Some (distinct ns) else None
+if_some_few ns = if nat_lt 0 (length ns) && nat_le (length ns) 32 then Some ns else None
 
--- a list of 1 to 32 names, read as a set: its repeats count towards the 32 and are left out
+-- a list of 1 to 32 names, as it stands
+abbrev pub listed_form : Data → Option (List (List ℕ))
+listed_form d = option_and_then if_some_few (option_and_then names_of (as_array d))
+
+-- the same read as a set: its repeats count towards the 32 and are left out
 abbrev pub rights_form : Data → Option (List (List ℕ))
-rights_form d = option_and_then if_some_few (option_and_then names_of (as_array d))
+rights_form d = option_map distinct (listed_form d)
 
 -- a list of names, which may be empty
 abbrev pub list_form : Data → Option (List (List ℕ))
@@ -79,15 +87,19 @@ mode_of w = if bytes_eq w (word_text word.All) then Some mode.All else (if bytes
 abbrev pub mode_form : Data → Option Mode
 mode_form d = option_and_then mode_of (as_str d)
 
--- exactly one of the keys `user`, `ua` and `process` is there
-abbrev pub one_subject : Option Data → Option Data → Option Data → Option (Subject (List ℕ) ℕ)
-one_subject (Some u) None None = option_map subject.User (name_form u)
-one_subject None (Some a) None = option_map subject.Ua (name_form a)
-one_subject None None (Some p) = option_map subject.Process (short_form p)
-one_subject _ _ _ = None
+-- exactly one of the keys `user`, `ua` and `process` is there, with these forms of an element and a process
+module _ {N P : Type 0} (element : Data → Option N) (process : Data → Option P) where
+  abbrev pub one_subject : Option Data → Option Data → Option Data → Option (Subject N P)
+  one_subject (Some u) None None = option_map subject.User (element u)
+  one_subject None (Some a) None = option_map subject.Ua (element a)
+  one_subject None None (Some p) = option_map subject.Process (process p)
+  one_subject _ _ _ = None
+
+  abbrev pub subject_by : Data → Option (Subject N P)
+  subject_by d = one_subject (get (key_text key.User) d) (get (key_text key.Ua) d) (get (key_text key.Process) d)
 
 abbrev pub subject_form : Data → Option (Subject (List ℕ) ℕ)
-subject_form d = one_subject (get (key_text key.User) d) (get (key_text key.Ua) d) (get (key_text key.Process) d)
+subject_form d = subject_by name_form short_form d
 
 -- ---- fields
 

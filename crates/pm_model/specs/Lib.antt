@@ -18,6 +18,7 @@ pub mod Obligations
 pub mod Prohibitions
 pub mod Recorded
 pub mod Resolve
+pub mod ResponseForms
 pub mod Responses
 pub mod Results
 pub mod RightSet

@@ -26,6 +26,14 @@ pub struct Pattern {
     pub target: Option<ElementId>,
 }
 
+/// The same by names, as a line gives it.
+#[derive(Clone, Copy, PartialEq, Eq)]
+pub struct When {
+    pub on: Name,
+    pub user: Option<Name>,
+    pub target: Option<Name>,
+}
+
 impl Pattern {
     /// The same pattern once more.
     pub fn copy(&self) -> Pattern

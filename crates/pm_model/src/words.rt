@@ -8,20 +8,26 @@ ghost use Rattle.pm_model.specs.Words.{key_text, word_text};
 /// A key of a line's object.
 #[derive(Clone, Copy, Debug, PartialEq, Eq)]
 pub enum Key {
+    Action,
     After,
     At,
     Class,
     Cmd,
+    Do,
     Exc,
     Field,
+    Fired,
     From,
     Id,
+    If,
     Inc,
     Into,
     Mode,
     Name,
     No,
+    Obligation,
     Ok,
+    On,
     Proc,
     Process,
     Prohibition,
@@ -35,6 +41,8 @@ pub enum Key {
     Ua,
     User,
     V,
+    When,
+    Why,
 }
 
 /// A fixed text of a line: the word of a command (also of those that are yet to come), of a reply, of a
@@ -113,20 +121,26 @@ impl Key {
         ensures plain { list_all is_name_byte result.now ≡ true }
     {
         match self {
+            Key::Action => "action",
             Key::After => "after",
             Key::At => "at",
             Key::Class => "class",
             Key::Cmd => "cmd",
+            Key::Do => "do",
             Key::Exc => "exc",
             Key::Field => "field",
+            Key::Fired => "fired",
             Key::From => "from",
             Key::Id => "id",
+            Key::If => "if",
             Key::Inc => "inc",
             Key::Into => "into",
             Key::Mode => "mode",
             Key::Name => "name",
             Key::No => "no",
+            Key::Obligation => "obligation",
             Key::Ok => "ok",
+            Key::On => "on",
             Key::Proc => "proc",
             Key::Process => "process",
             Key::Prohibition => "prohibition",
@@ -140,6 +154,8 @@ impl Key {
             Key::Ua => "ua",
             Key::User => "user",
             Key::V => "v",
+            Key::When => "when",
+            Key::Why => "why",
         }
     }
 }
