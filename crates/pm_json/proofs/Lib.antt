@@ -3,6 +3,8 @@ pub mod Bounds
 pub mod Distinct
 pub mod Fair
 pub mod Fields
+pub mod Guards
+pub mod Limits
 pub mod Lists
 pub mod Members
 pub mod Names

@@ -1,5 +1,5 @@
 -- A request has the lists of its line.
-use Rattle.std.proofs.Common.{◌≡◌, ◌≢◌, ◌↔◌, ◌<◌, ◌≤◌, ◌+◌, ℕ, List, [], ◌∷◌, ◌&&◌, Bool, true, false, not, length, nat_lt, nat_le, bytes_eq, get_or, Option, None, Some, Result, Ok, Err, IfSome, IfOk, option_and_then, if◌then◌else◌, Contains, refl, sym, ap, subst, ◌∙◌, arith, leb-true, ltb-true}
+use Rattle.std.proofs.Common.{◌≡◌, ◌≢◌, ◌↔◌, ◌<◌, ◌≤◌, ◌+◌, ℕ, List, [], ◌∷◌, ◌&&◌, Bool, true, false, not, length, nat_lt, nat_le, bytes_eq, get_or, Option, None, Some, Result, Ok, Err, IfSome, IfOk, option_and_then, option_map, if◌then◌else◌, Contains, refl, sym, ap, subst, ◌∙◌, arith, leb-true, ltb-true}
 use Rattle.std.proofs.lemmas.Bool.{and_parts, not-true}
 use Rattle.std.proofs.lemmas.List.Elements.{All-get_or, All-weaker, filter_passes}
 use Rattle.std.proofs.lemmas.List.Kept.{AllPairs-cons, AllPairs-filter}
@@ -13,7 +13,7 @@ use Rattle.std.specs.Str.{is_utf8}
 use Rattle.serde_json.specs.Data.{Data}
 use Rattle.serde_json.specs.Read.{read}
 use Rattle.pm_model.specs.Asked as form
-use Rattle.pm_model.specs.Asked.{asked, asked_of, looking, distinct, list_form, rights_form, if_some_few, if_few_beside, what_of, whole_form}
+use Rattle.pm_model.specs.Asked.{asked, asked_of, looking, distinct, list_form, listed_form, rights_form, if_some_few, if_few_beside, what_of, whole_form}
 use Rattle.pm_model.specs.Results.{and_then}
 use Rattle.pm_model.specs.Words.{key_text}
 use Rattle.pm_model.specs.declared.words.Key.{Key}
@@ -88,11 +88,16 @@ is_set ns some few = record { some = some; few = few; once = once ns; same = sam
 
 -- ---- what a form has read
 
-some_few : (ns set : List (List ℕ)) (b : Bool) → b ≡ (nat_lt 0 (length ns) && nat_le (length ns) 32) → (if b then Some (distinct ns) else None) ≡ Some set → IsSetOf set ns
-some_few ns set true is read =
+mapped_some : {A B P : Type 0} (f : A → B) (o : Option A) (y : B) → option_map f o ≡ Some y → ((x : A) → o ≡ Some x → f x ≡ y → P) → P
+mapped_some f None y read k = absurd cc
+mapped_some f (Some x) y read k = k x refl (same_Some _ _ read)
+
+some_few : (ns listed : List (List ℕ)) (b : Bool) → b ≡ (nat_lt 0 (length ns) && nat_le (length ns) 32) → (if b then Some ns else None) ≡ Some listed →
+    (ns ≡ listed) × IsSetOf (distinct ns) ns
+some_few ns listed true is read =
     let p = and_parts (nat_lt 0 (length ns)) (nat_le (length ns) 32) (sym is) in
-    subst (λ (s : List (List ℕ)). IsSetOf s ns) (same_Some _ _ read) (is_set ns (ltb-true 0 (length ns) p.0) (leb-true (length ns) 32 p.1))
-some_few ns set false is read = absurd cc
+    (same_Some _ _ read, is_set ns (ltb-true 0 (length ns) p.0) (leb-true (length ns) 32 p.1))
+some_few ns listed false is read = absurd cc
 
 few_beside : (inc ns exc : List (List ℕ)) (b : Bool) → b ≡ nat_le (length inc + length ns) 32 → (if b then Some ns else None) ≡ Some exc → (ns ≡ exc) × (length inc + length ns ≤ 32)
 few_beside inc ns exc true is read = (same_Some _ _ read, leb-true (length inc + length ns) 32 (sym is))
@@ -125,8 +130,10 @@ module _ (look : List ℕ → Option Data) where
   has_rights : (set : List (List ℕ)) → form.rights_at look ≡ Ok set → HasRights at_key set
   has_rights set read =
       option_and_then_some rights_form (look (key_text key.Rights)) set (required_some key.Rights _ set read) (λ d found formed.
-      option_and_then_some if_some_few (list_form d) set formed (λ ns listed few.
-      record { names = ns; there = ap (option_and_then list_form) found ∙ listed; is_set = some_few ns set _ refl few }))
+      mapped_some distinct (listed_form d) set formed (λ kept few same.
+      option_and_then_some if_some_few (list_form d) kept few (λ ns listed some.
+      let p = some_few ns kept _ refl some in
+      record { names = ns; there = ap (option_and_then list_form) found ∙ listed; is_set = subst (λ (s : List (List ℕ)). IsSetOf s ns) (ap distinct p.0 ∙ same) p.1 })))
 
   has_sets : (inc exc : List (List ℕ)) → form.inc_at look ≡ Ok inc → form.exc_at look inc ≡ Ok exc → HasSets at_key inc exc
   has_sets inc exc read_inc read_exc =

@@ -29,10 +29,11 @@ beside (p ∷ ps) w = if bytes_eq w (word_text p.0) then Some p.1 else beside ps
 
 abbrev pub keys : List Key
 keys =
-    key.After ∷ key.At ∷ key.Class ∷ key.Cmd ∷ key.Exc ∷ key.Field ∷ key.From
-    ∷ key.Id ∷ key.Inc ∷ key.Into ∷ key.Mode ∷ key.Name ∷ key.No ∷ key.Ok
-    ∷ key.Proc ∷ key.Process ∷ key.Prohibition ∷ key.Right ∷ key.Rights ∷ key.Session ∷ key.Subject
-    ∷ key.Table ∷ key.Target ∷ key.To ∷ key.Ua ∷ key.User ∷ key.V ∷ []
+    key.Action ∷ key.After ∷ key.At ∷ key.Class ∷ key.Cmd ∷ key.Do ∷ key.Exc
+    ∷ key.Field ∷ key.Fired ∷ key.From ∷ key.Id ∷ key.If ∷ key.Inc ∷ key.Into
+    ∷ key.Mode ∷ key.Name ∷ key.No ∷ key.Obligation ∷ key.Ok ∷ key.On ∷ key.Proc
+    ∷ key.Process ∷ key.Prohibition ∷ key.Right ∷ key.Rights ∷ key.Session ∷ key.Subject ∷ key.Table
+    ∷ key.Target ∷ key.To ∷ key.Ua ∷ key.User ∷ key.V ∷ key.When ∷ key.Why ∷ []
 
 -- the first of the keys that is spelt so
 abbrev pub spelt : List Key → List ℕ → Option Key

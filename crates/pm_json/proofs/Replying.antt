@@ -47,20 +47,26 @@ number_told (Some n) = refl
 
 spelt_key : (k : Key) → replied.spelt replied.keys (key_text k) ≡ Some k
 unfolding key_text
+spelt_key key.Action = refl
 spelt_key key.After = refl
 spelt_key key.At = refl
 spelt_key key.Class = refl
 spelt_key key.Cmd = refl
+spelt_key key.Do = refl
 spelt_key key.Exc = refl
 spelt_key key.Field = refl
+spelt_key key.Fired = refl
 spelt_key key.From = refl
 spelt_key key.Id = refl
+spelt_key key.If = refl
 spelt_key key.Inc = refl
 spelt_key key.Into = refl
 spelt_key key.Mode = refl
 spelt_key key.Name = refl
 spelt_key key.No = refl
+spelt_key key.Obligation = refl
 spelt_key key.Ok = refl
+spelt_key key.On = refl
 spelt_key key.Proc = refl
 spelt_key key.Process = refl
 spelt_key key.Prohibition = refl
@@ -74,6 +80,8 @@ spelt_key key.To = refl
 spelt_key key.Ua = refl
 spelt_key key.User = refl
 spelt_key key.V = refl
+spelt_key key.When = refl
+spelt_key key.Why = refl
 
 abbrev said_as : Option ℕ → ℕ → Shown → replied.Said
 said_as id v what = record { id = id; version = v; shown = what }

@@ -15,20 +15,26 @@ use Rattle.pm_json.proofs.Members.{quoted-plain, plain-name}
 
 pub key_name : (k : Key) → IsTrue (is_name (key_text k))
 unfolding key_text
+key_name key.Action = refl
 key_name key.After = refl
 key_name key.At = refl
 key_name key.Class = refl
 key_name key.Cmd = refl
+key_name key.Do = refl
 key_name key.Exc = refl
 key_name key.Field = refl
+key_name key.Fired = refl
 key_name key.From = refl
 key_name key.Id = refl
+key_name key.If = refl
 key_name key.Inc = refl
 key_name key.Into = refl
 key_name key.Mode = refl
 key_name key.Name = refl
 key_name key.No = refl
+key_name key.Obligation = refl
 key_name key.Ok = refl
+key_name key.On = refl
 key_name key.Proc = refl
 key_name key.Process = refl
 key_name key.Prohibition = refl
@@ -42,6 +48,8 @@ key_name key.To = refl
 key_name key.Ua = refl
 key_name key.User = refl
 key_name key.V = refl
+key_name key.When = refl
+key_name key.Why = refl
 
 pub word_name : (w : Word) → IsTrue (is_name (word_text w))
 unfolding word_text

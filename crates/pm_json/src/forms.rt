@@ -1,13 +1,15 @@
-//! Forms of fields: names, numbers, lists of names, subjects and modes, by themselves and at a line's keys.
-ghost use Rattle.std.specs.Prelude.{◌≡◌, option_map, option_and_then, bytes_eq, IfOk};
+//! Forms of fields: names, numbers, lists, subjects and modes, by themselves and at a line's keys.
+ghost use Rattle.std.specs.Prelude.{◌≡◌, Option, option_map, option_and_then, bytes_eq, IfOk};
 ghost use Rattle.std.specs.List.{list_any};
+ghost use Rattle.serde_json.specs.Data.{Data};
+ghost use Rattle.serde_json.specs.Find.{as_array};
 ghost use Rattle.serde_json.specs.View.{view, items_view};
-ghost use Rattle.pm_model.specs.Asked.{distinct, exc_at, list_form, looking, mode_at, mode_form, mode_of, name_at, name_form, names_of, number_at, one_subject, optional, process_of, required, rights_at, rights_form, sets_of, short_form, subject_at, subject_form, whole_form};
+ghost use Rattle.pm_model.specs.Asked.{distinct, exc_at, list_form, list_of, listed_form, looking, mode_at, mode_form, mode_of, name_at, name_form, number_at, one_subject, optional, process_of, required, rights_at, rights_form, sets_of, short_form, subject_at, subject_by, whole_form};
 ghost use Rattle.pm_model.specs.Words.{key_text};
 ghost use Rattle.pm_json.specs.Reads.{Reads};
 
 use crate::errors::ReadError;
-use pm_model::{BadLine, Key, Memory, Mode, Name, NameList, Subject};
+use pm_model::{BadLine, ItemList, Key, Memory, Mode, Name, NameList, Subject};
 use serde_json::Value;
 use std::alloc::Global;
 
@@ -17,7 +19,34 @@ const MOST_RIGHTS: usize = 32;
 /// How many names the two sets of a prohibition may list together, repeats included.
 const MOST_IN_SETS: usize = 32;
 
-fn name(value: &Value) -> Option<Name>
+/// What a value can be read as.
+pub(crate) trait Form: Sized {
+    /// What a value reads as, where it has the form.
+    ghost form: { Data → Option Self };
+
+    /// What the value reads as.
+    fn read(value: &Value) -> Option<Self>
+        ensures { result ≡ form (view value.now) };
+}
+
+impl Form for Name {
+    ghost form = { name_form };
+
+    fn read(value: &Value) -> Option<Name> {
+        name(value)
+    }
+}
+
+impl Form for u32 {
+    ghost form = { short_form };
+
+    fn read(value: &Value) -> Option<u32> {
+        short(value)
+    }
+}
+
+/// A text that is a name.
+pub(crate) fn name(value: &Value) -> Option<Name>
     ensures { result ≡ name_form (view value.now) }
 {
     let text = value.as_str()?;
@@ -34,7 +63,8 @@ pub(crate) fn name_at(key: Key, value: &Value) -> Result<Name, BadLine>
     }
 }
 
-fn short(value: &Value) -> Option<u32>
+/// A whole number of 32 bits.
+pub(crate) fn short(value: &Value) -> Option<u32>
     ensures { result ≡ short_form (view value.now) }
 {
     let number = value.as_u64()?;
@@ -78,25 +108,32 @@ pub(crate) fn optional_whole(key: Key, found: Option<&Value>) -> Result<Option<u
     }
 }
 
-fn names_of(alloc: Global, items: &[Value]) -> Result<Option<NameList>, Memory>
-    ensures { IfOk result (λ o. o ≡ names_of (items_view items.now)) }
+fn list_of<T: Form + Drop>(
+    alloc: Global,
+    items: &[Value],
+) -> Result<Option<ItemList<T>>, Memory>
+    ensures { IfOk result (λ o. o ≡ list_of T.form (items_view items.now)) }
 {
-    let mut list = NameList::new(alloc);
-    for item in items {
-        match name(item) {
+    let mut list = ItemList::new(alloc);
+    for value in items {
+        match T::read(value) {
             None => return Ok(None),
-            Some(name) => list.push(name)?,
+            Some(item) => list.push(item)?,
         }
     }
     Ok(Some(list))
 }
 
-fn list(alloc: Global, value: &Value) -> Result<Option<NameList>, Memory>
-    ensures { IfOk result (λ o. o ≡ list_form (view value.now)) }
+/// A list of what has a form.
+pub(crate) fn list<T: Form + Drop>(
+    alloc: Global,
+    value: &Value,
+) -> Result<Option<ItemList<T>>, Memory>
+    ensures { IfOk result (λ o. o ≡ option_and_then (list_of T.form) (as_array (view value.now))) }
 {
     match value.as_array() {
         None => Ok(None),
-        Some(items) => names_of(alloc, items),
+        Some(items) => list_of(alloc, items),
     }
 }
 
@@ -118,8 +155,8 @@ fn contains(list: &[Name], name: &Name) -> bool
     list.iter().any(|n| name.bytes() == n.bytes())
 }
 
-// The names in order, each at its first place alone.
-fn distinct(alloc: Global, names: &[Name]) -> Result<NameList, Memory>
+/// The names in order, each at its first place alone.
+pub(crate) fn distinct(alloc: Global, names: &[Name]) -> Result<NameList, Memory>
     ensures { IfOk result (λ l. l ≡ distinct names.now) }
 {
     let mut list = NameList::new(alloc);
@@ -131,17 +168,28 @@ fn distinct(alloc: Global, names: &[Name]) -> Result<NameList, Memory>
     Ok(list)
 }
 
-fn rights(alloc: Global, value: &Value) -> Result<Option<NameList>, Memory>
-    ensures { IfOk result (λ o. o ≡ rights_form (view value.now)) }
+/// A list of rights as it stands, repeats too.
+pub(crate) fn listed(alloc: Global, value: &Value) -> Result<Option<NameList>, Memory>
+    ensures { IfOk result (λ o. o ≡ listed_form (view value.now)) }
 {
-    match list(alloc, value)? {
+    let names: Option<NameList> = list(alloc, value)?;
+    match names {
         None => Ok(None),
         Some(names) => {
             if names.len() == 0 || names.len() > MOST_RIGHTS {
                 return Ok(None);
             }
-            Ok(Some(distinct(alloc, names.as_slice())?))
+            Ok(Some(names))
         }
+    }
+}
+
+fn rights(alloc: Global, value: &Value) -> Result<Option<NameList>, Memory>
+    ensures { IfOk result (λ o. o ≡ rights_form (view value.now)) }
+{
+    match listed(alloc, value)? {
+        None => Ok(None),
+        Some(names) => Ok(Some(distinct(alloc, names.as_slice())?)),
     }
 }
 
@@ -177,23 +225,24 @@ pub(crate) fn sets(alloc: Global, value: &Value) -> Result<(NameList, NameList),
     Ok((inc, exc))
 }
 
-fn one_subject(
+fn one_subject<N: Form, P: Form>(
     user: Option<&Value>,
     ua: Option<&Value>,
     process: Option<&Value>,
-) -> Option<Subject<Name, u32>>
-    ensures { result ≡ one_subject (option_map (λ v. view v.now) user.entry) (option_map (λ v. view v.now) ua.entry) (option_map (λ v. view v.now) process.entry) }
+) -> Option<Subject<N, P>>
+    ensures { result ≡ one_subject N.form P.form (option_map (λ v. view v.now) user.entry) (option_map (λ v. view v.now) ua.entry) (option_map (λ v. view v.now) process.entry) }
 {
     match (user, ua, process) {
-        (Some(user), None, None) => name(user).map(Subject::User),
-        (None, Some(ua), None) => name(ua).map(Subject::Ua),
-        (None, None, Some(process)) => short(process).map(Subject::Process),
+        (Some(user), None, None) => Some(Subject::User(N::read(user)?)),
+        (None, Some(ua), None) => Some(Subject::Ua(N::read(ua)?)),
+        (None, None, Some(process)) => Some(Subject::Process(P::read(process)?)),
         _ => None,
     }
 }
 
-fn subject(value: &Value) -> Option<Subject<Name, u32>>
-    ensures { result ≡ subject_form (view value.now) }
+/// A user, a user attribute or a process, of which exactly one is there.
+pub(crate) fn subject<N: Form, P: Form>(value: &Value) -> Option<Subject<N, P>>
+    ensures { result ≡ subject_by N.form P.form (view value.now) }
 {
     let user = value.get(Key::User.text());
     let ua = value.get(Key::Ua.text());
@@ -205,7 +254,10 @@ fn subject(value: &Value) -> Option<Subject<Name, u32>>
 pub(crate) fn subject_at(value: &Value) -> Result<Subject<Name, u32>, BadLine>
     ensures { result ≡ subject_at (looking (view value.now)) }
 {
-    match value.get(Key::Subject.text()).and_then(subject) {
+    let Some(found) = value.get(Key::Subject.text()) else {
+        return Err(BadLine::BadField(Key::Subject));
+    };
+    match subject(found) {
         None => Err(BadLine::BadField(Key::Subject)),
         Some(subject) => Ok(subject),
     }
@@ -222,7 +274,8 @@ fn mode_named(word: &str) -> Option<Mode>
     }
 }
 
-fn mode(value: &Value) -> Option<Mode>
+/// A word for how sets make a range.
+pub(crate) fn mode(value: &Value) -> Option<Mode>
     ensures { result ≡ mode_form (view value.now) }
 {
     value.as_str().and_then(mode_named)

@@ -7,10 +7,14 @@ mod laws;
 mod print;
 mod put;
 mod read;
+mod responses;
 mod rows;
+mod terms;
 #[cfg(test)]
 mod tests;
 
 pub use laws::{command_word_is_taken, line_has_one_meaning, lists_are_kept, reply_is_short};
 pub use print::{LONGEST_REPLY, print_bad, print_reply};
 pub use read::read_request;
+pub use responses::response;
+pub use terms::when;

@@ -1,0 +1,18 @@
+use Rattle.std.proofs.Common.{◌≡◌, List, ℕ, Option, None, Some, Bool, true, false, bytes_eq, if◌then◌else◌, refl, sym, ◌∙◌}
+use Rattle.std.proofs.lemmas.Slice.Eq.{bytes_eq-Decides}
+use Rattle.pm_model.specs.Words.{word_text}
+use Rattle.pm_model.specs.declared.actions.Act.{Act}
+use Rattle.pm_json.proofs.Distinct.{by_test}
+use Rattle.pm_json.proofs.responses.act_of.Goals as goal
+
+other : (w x : List ℕ) (read rest : Option Act) → (w ≡ x → ⊥) → None ≡ rest → None ≡ (if bytes_eq w x then read else rest)
+other w x read rest differ later = by_test (bytes_eq w x) (λ same. absurd (differ ((bytes_eq-Decides w x).0 same))) (λ no. rw no later)
+
+pub returns-in_default : goal.returns-in_default
+unfolding word_text
+returns-in_default c =
+    let w = c.args.word.now in
+    let d = c.in_default in
+    other w _ _ _ d.not-create_user (other w _ _ _ d.not-create_ua (other w _ _ _ d.not-create_oa (other w _ _ _ d.not-create_object
+    (other w _ _ _ d.not-delete (other w _ _ _ d.not-assign (other w _ _ _ d.not-deassign (other w _ _ _ d.not-associate
+    (other w _ _ _ d.not-dissociate (other w _ _ _ d.not-prohibit (other w _ _ _ d.not-lift refl))))))))))
