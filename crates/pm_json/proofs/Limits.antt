@@ -1,12 +1,11 @@
 -- Actions within the limits of a response stay so with their rights as sets.
-use Rattle.std.proofs.Common.{◌≡◌, ◌<◌, ◌≤◌, ◌+◌, ℕ, Bool, true, false, not, nat_lt, ◌==◌, List, [], ◌∷◌, length, filter, map, bytes_eq, if◌then◌else◌, Option, None, Some, refl, arith, ap, subst, sym, ◌∙◌}
-use Rattle.std.specs.Prelude.{sum_by}
+use Rattle.std.proofs.Common.{◌≡◌, ◌≤◌, ℕ, Bool, true, false, not, nat_lt, List, [], ◌∷◌, length, map, bytes_eq, Option, None, refl, arith}
 use Rattle.std.proofs.lemmas.Bool.{ltb-false}
 use Rattle.std.proofs.lemmas.Bool.Decides.{nat_tests}
 use Rattle.std.proofs.lemmas.List.{length-map}
 use Rattle.std.proofs.lemmas.List.Sums.{sum_by-cons}
 use Rattle.std.proofs.lemmas.List.Filters.{length-filter_both}
-use Rattle.pm_model.specs.Actions.{names_in_act, names_in_action, names_in_actions, names_in_subject, response_refusal, max_names}
+use Rattle.pm_model.specs.Actions.{names_in_act, names_in_action, names_in_actions, response_refusal, max_names}
 use Rattle.pm_model.specs.Asked.{distinct}
 use Rattle.pm_model.specs.ResponseForms.{act_as_set, as_set}
 use Rattle.pm_model.specs.declared.actions.Act.{Act}
@@ -15,7 +14,6 @@ use Rattle.pm_model.specs.declared.actions.Action.{Action}
 use Rattle.pm_model.specs.declared.obligations.ResponseError.{ResponseError}
 use Rattle.pm_model.specs.declared.obligations.ResponseError.TheVariants.{NoActions, TooManyActions, TooManyNames}
 use Rattle.pm_model.specs.Results.{first_of}
-use Rattle.pm_json.proofs.Distinct.{others}
 
 no_longer : (ns : List (List ℕ)) → length (distinct ns) ≤ length ns
 no_longer [] = omega arith

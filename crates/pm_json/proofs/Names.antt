@@ -1,6 +1,6 @@
 -- A list is read item by item.
-use Rattle.std.proofs.Common.{◌≡◌, ◌<◌, ◌+◌, ℕ, List, [], ◌∷◌, ◌++◌, length, get_or, drop, suc, Option, None, Some, option_map, option_and_then, refl, sym, ap, ◌∙◌, append_assoc, add-one, drop-cons}
-use Rattle.serde_json.specs.Data.{Data, Items, item}
+use Rattle.std.proofs.Common.{◌≡◌, ◌<◌, ◌+◌, ℕ, List, [], ◌∷◌, ◌++◌, length, get_or, drop, suc, Option, None, Some, option_map, refl, sym, ap, ◌∙◌, append_assoc, add-one, drop-cons}
+use Rattle.serde_json.specs.Data.{Data, item}
 use Rattle.serde_json.specs.View.{view, items_view}
 use Rattle.serde_json.specs.declared.value.Value.{Value}
 use Rattle.pm_model.specs.Asked.{list_of}

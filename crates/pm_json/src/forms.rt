@@ -108,10 +108,7 @@ pub(crate) fn optional_whole(key: Key, found: Option<&Value>) -> Result<Option<u
     }
 }
 
-fn list_of<T: Form + Drop>(
-    alloc: Global,
-    items: &[Value],
-) -> Result<Option<ItemList<T>>, Memory>
+fn list_of<T: Form + Drop>(alloc: Global, items: &[Value]) -> Result<Option<ItemList<T>>, Memory>
     ensures { IfOk result (λ o. o ≡ list_of T.form (items_view items.now)) }
 {
     let mut list = ItemList::new(alloc);

@@ -9,7 +9,8 @@ ghost use Rattle.pm_model.specs.ResponseForms.{act_as_set, act_of, action_form, 
 use crate::forms::{distinct, list, listed, mode, name, subject};
 use crate::terms::{given_name, guards_if, term_at};
 use pm_model::{
-    Act, Action, ActionList, Key, Kind, Memory, Mode, NameList, ProcessTerm, Response, Subject, Term, TermList,
+    Act, Action, ActionList, Key, Kind, Memory, Mode, NameList, ProcessTerm, Response, Subject,
+    Term, TermList,
 };
 use serde_json::Value;
 use std::alloc::Global;
@@ -125,9 +126,11 @@ fn mode_at(value: &Value) -> Option<Mode>
 fn prohibit(alloc: Global, value: &Value) -> Result<Option<Act>, Memory>
     ensures { IfOk result (λ o. o ≡ prohibit_act (looking (view value.now))) }
 {
-    let (Some(name), Some(subject), Some(mode)) =
-        (given_name(value), subject_at(value), mode_at(value))
-    else {
+    let (Some(name), Some(subject), Some(mode)) = (
+        given_name(value),
+        subject_at(value),
+        mode_at(value),
+    ) else {
         return Ok(None);
     };
     let Some(rights) = rights(alloc, value)? else {

@@ -1,3 +1,4 @@
 //! What lines ask, and the lines of replies.
 mod printing;
 mod reading;
+mod responding;
