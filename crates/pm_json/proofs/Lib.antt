@@ -4,10 +4,10 @@ pub mod Distinct
 pub mod Fair
 pub mod Fields
 pub mod Guards
+pub mod Items
 pub mod Limits
 pub mod Lists
 pub mod Members
-pub mod Names
 pub mod Replied
 pub mod Replying
 pub mod Taken

@@ -17,7 +17,7 @@ use std::alloc::Global;
 const MOST_RIGHTS: usize = 32;
 
 /// How many names the two sets of a prohibition may list together, repeats included.
-const MOST_IN_SETS: usize = 32;
+pub(crate) const MOST_IN_SETS: usize = 32;
 
 /// What a value can be read as.
 pub(crate) trait Form: Sized {

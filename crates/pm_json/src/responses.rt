@@ -6,7 +6,7 @@ ghost use Rattle.pm_model.specs.Actions.{response_refusal};
 ghost use Rattle.pm_model.specs.Asked.{list_of, looking, mode_form};
 ghost use Rattle.pm_model.specs.ResponseForms.{act_as_set, act_of, action_form, as_set, assign_act, associate_act, both_at, create_act, deassign_act, delete_act, dissociate_act, do_form, formed, if_allowed, lift_act, prohibit_act, rights_listed, subject_term, term_sets, terms_form};
 
-use crate::forms::{distinct, list, listed, mode, name, subject};
+use crate::forms::{MOST_IN_SETS, distinct, list, listed, mode, name, subject};
 use crate::terms::{given_name, guards_if, term_at};
 use pm_model::{
     Act, Action, ActionList, Key, Kind, Memory, Mode, NameList, ProcessTerm, Response, Subject,
@@ -14,9 +14,6 @@ use pm_model::{
 };
 use serde_json::Value;
 use std::alloc::Global;
-
-/// How many terms the two sets of a prohibition may list together, repeats included.
-const MOST_IN_SETS: usize = 32;
 
 fn create(kind: Kind, value: &Value) -> Option<Act>
     ensures { result ≡ create_act (looking (view value.now)) kind }

@@ -10,6 +10,7 @@ ghost use Rattle.pm_rows.specs.Histories.{two_entries, after_two, late_assignmen
 ghost use Rattle.pm_rows.specs.Rows.{Hold, rows};
 ghost use Rattle.pm_rows.specs.Denials.{denial_rows};
 ghost use Rattle.pm_rows.specs.Forms.{form_rows};
+ghost use Rattle.pm_rows.specs.Responses.{Responds, Awaits, responses, awaited};
 ghost use Rattle.pm_rows.specs.Cases.{kinds, pairs_of, assigned_kinds, associated_kinds, ranges, Covers, bytes_from, name_bytes, IsCutAt};
 
 /// The definitions give each row's replies to its lines.
@@ -25,6 +26,13 @@ pub fn denials_hold()
 /// They give them in the rows on the forms of lines.
 pub fn forms_hold()
     ensures { Hold form_rows }
+{}
+
+/// What the responses of obligations read as, and what they wait for.
+#[tactic(auto, using(crate::proofs::Responses::responses_told, crate::proofs::Responses::awaited_told))]
+pub fn responses_read()
+    ensures responses { Each Responds responses }
+    ensures awaited { Each Awaits awaited }
 {}
 
 /// Which histories are legal, and what the replay of one is.

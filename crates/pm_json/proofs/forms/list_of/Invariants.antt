@@ -1,7 +1,7 @@
 use Rattle.std.proofs.Common.{◌≡◌, drop}
 use Rattle.serde_json.specs.View.{items_view}
 use Rattle.pm_model.specs.Asked.{list_of}
-use Rattle.pm_json.proofs.Names.{behind}
+use Rattle.pm_json.proofs.Items.{behind}
 use Rattle.pm_json.proofs.forms.list_of.Given as goal
 
 abbrev pub invariant-loop-value : goal.invariant-loop-value

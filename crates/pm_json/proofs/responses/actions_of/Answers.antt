@@ -1,6 +1,6 @@
 use Rattle.std.proofs.Common.{arith, sym, ◌∙◌}
 use Rattle.pm_model.specs.ResponseForms.{action_form}
-use Rattle.pm_json.proofs.Names.{behind_next}
+use Rattle.pm_json.proofs.Items.{behind_next}
 use Rattle.pm_json.proofs.responses.actions_of.Goals as goal
 
 pub loop-value-preserved : goal.loop-value-preserved
