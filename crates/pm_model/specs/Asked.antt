@@ -2,10 +2,13 @@
 -- the project's own.
 use Rattle.std.specs.Prelude.{ℕ, ◌+◌, ◌^◌, List, [], ◌∷◌, ◌&&◌, if◌then◌else◌, nat_lt, nat_le, length, filter, not, bytes_eq, Option, None, Some, option_and_then, option_map, Result, Ok, Err}
 use Rattle.std.specs.Str.{is_utf8}
-use Rattle.serde_json.specs.Data.{Data, Items, no_items, item}
+use Rattle.serde_json.specs.Data.{Data}
 use Rattle.serde_json.specs.Read.{read}
-use Rattle.serde_json.specs.Find.{get, as_str, as_number, as_u64, as_array}
-use Rattle.pm_model.specs.Name.{is_name}
+use Rattle.serde_json.specs.Find.{as_str}
+use Rattle.pm_model.specs.Forms.{name_form, whole_form, short_form, rights_form, list_form, if_few_beside, mode_form, subject_form, looking}
+use Rattle.pm_model.specs.ResponseForms.{do_form, when_form}
+use Rattle.pm_model.specs.declared.actions.Action.{Action}
+use Rattle.pm_model.specs.declared.events.When.{When}
 use Rattle.pm_model.specs.Results.{and_then}
 use Rattle.pm_model.specs.Words.{key_text, word_text}
 use Rattle.pm_model.specs.declared.words.Key.{Key}
@@ -18,88 +21,13 @@ use Rattle.pm_model.specs.declared.elements.Kind.TheVariants.{User, Ua, Object, 
 use Rattle.pm_model.specs.declared.requests.Command.{Command}
 use Rattle.pm_model.specs.declared.requests.Command.TheVariants as command
 use Rattle.pm_model.specs.declared.prohibitions.Mode.{Mode}
-use Rattle.pm_model.specs.declared.prohibitions.Mode.TheVariants as mode
 use Rattle.pm_model.specs.declared.prohibitions.Subject.{Subject}
-use Rattle.pm_model.specs.declared.prohibitions.Subject.TheVariants as subject
 use Rattle.pm_model.specs.declared.requests.Body.{Body}
 use Rattle.pm_model.specs.declared.requests.Body.TheVariants as body
 use Rattle.pm_model.specs.declared.requests.Request.{Request}
 use Rattle.pm_model.specs.declared.requests.What.{What}
 use Rattle.pm_model.specs.declared.requests.What.TheVariants as what
 use Rattle.pm_model.specs.declared.requests.Asked.{Asked}
-
--- ---- forms of fields
-
-abbrev pub if_name : List ℕ → Option (List ℕ)
-if_name s = if is_name s then Some s else None
-
--- a text that is a name
-abbrev pub name_form : Data → Option (List ℕ)
-name_form d = option_and_then if_name (as_str d)
-
--- a whole number from 0 to 2^64 - 1, written without sign, fraction or exponent
-abbrev pub whole_form : Data → Option ℕ
-whole_form d = option_and_then as_u64 (as_number d)
-
-abbrev pub if_short : ℕ → Option ℕ
-if_short n = if nat_lt n (2 ^ 32) then Some n else None
-
--- a whole number from 0 to 2^32 - 1
-abbrev pub short_form : Data → Option ℕ
-short_form d = option_and_then if_short (whole_form d)
-
--- a list of what has a form
-abbrev pub list_of : {A : Type 0} → (Data → Option A) → Items → Option (List A)
-list_of form no_items = Some []
-list_of form (item d ds) = option_and_then (λ x. option_map (λ xs. x ∷ xs) (list_of form ds)) (form d)
-
--- a list of names
-abbrev pub names_of : Items → Option (List (List ℕ))
-names_of ds = list_of name_form ds
-
--- a list without its repeats: its first name, and then the others
-abbrev pub distinct : List (List ℕ) → List (List ℕ)
-distinct [] = []
-distinct (n ∷ ns) = n ∷ filter (λ m. not (bytes_eq n m)) (distinct ns)
-
-abbrev pub if_some_few : List (List ℕ) → Option (List (List ℕ))
-if_some_few ns = if nat_lt 0 (length ns) && nat_le (length ns) 32 then Some ns else None
-
--- a list of 1 to 32 names, as it stands
-abbrev pub listed_form : Data → Option (List (List ℕ))
-listed_form d = option_and_then if_some_few (option_and_then names_of (as_array d))
-
--- the same read as a set: its repeats count towards the 32 and are left out
-abbrev pub rights_form : Data → Option (List (List ℕ))
-rights_form d = option_map distinct (listed_form d)
-
--- a list of names, which may be empty
-abbrev pub list_form : Data → Option (List (List ℕ))
-list_form d = option_and_then names_of (as_array d)
-
--- where both lists together have at most 32 names
-abbrev pub if_few_beside : List (List ℕ) → List (List ℕ) → Option (List (List ℕ))
-if_few_beside inc exc = if nat_le (length inc + length exc) 32 then Some exc else None
-
-abbrev pub mode_of : List ℕ → Option Mode
-mode_of w = if bytes_eq w (word_text word.All) then Some mode.All else (if bytes_eq w (word_text word.Any) then Some mode.Any else None)
-
-abbrev pub mode_form : Data → Option Mode
-mode_form d = option_and_then mode_of (as_str d)
-
--- exactly one of the keys `user`, `ua` and `process` is there, with these forms of an element and a process
-module _ {N P : Type 0} (element : Data → Option N) (process : Data → Option P) where
-  abbrev pub one_subject : Option Data → Option Data → Option Data → Option (Subject N P)
-  one_subject (Some u) None None = option_map subject.User (element u)
-  one_subject None (Some a) None = option_map subject.Ua (element a)
-  one_subject None None (Some p) = option_map subject.Process (process p)
-  one_subject _ _ _ = None
-
-  abbrev pub subject_by : Data → Option (Subject N P)
-  subject_by d = one_subject (get (key_text key.User) d) (get (key_text key.Ua) d) (get (key_text key.Process) d)
-
-abbrev pub subject_form : Data → Option (Subject (List ℕ) ℕ)
-subject_form d = subject_by name_form short_form d
 
 -- ---- fields
 
@@ -204,6 +132,22 @@ module _ (look : List ℕ → Option Data) where
   abbrev pub define_right_of : Result Command BadLine
   define_right_of = and_then (name_at key.Name) (λ name. Ok (command.DefineRight name))
 
+  -- the fields `when` and `do`
+  abbrev pub when_at : Result When BadLine
+  when_at = required key.When (option_and_then when_form (look (key_text key.When)))
+
+  abbrev pub do_at : Result (List Action) BadLine
+  do_at = required key.Do (option_and_then do_form (look (key_text key.Do)))
+
+  abbrev pub oblige_of : Result Command BadLine
+  oblige_of =
+      and_then (name_at key.Name) (λ name.
+      and_then when_at (λ when.
+      and_then do_at (λ response. Ok (command.Oblige name when response))))
+
+  abbrev pub withdraw_of : Result Command BadLine
+  withdraw_of = and_then (name_at key.Name) (λ name. Ok (command.Withdraw name))
+
   abbrev pub access_of : Result Body BadLine
   access_of =
       and_then process_of (λ process.
@@ -234,8 +178,10 @@ module _ (look : List ℕ → Option Data) where
       else (if bytes_eq w (word_text word.Prohibit) then Some (admin_of prohibit_of)
       else (if bytes_eq w (word_text word.Lift) then Some (admin_of lift_of)
       else (if bytes_eq w (word_text word.DefineRight) then Some (admin_of define_right_of)
+      else (if bytes_eq w (word_text word.Oblige) then Some (admin_of oblige_of)
+      else (if bytes_eq w (word_text word.Withdraw) then Some (admin_of withdraw_of)
       else (if bytes_eq w (word_text word.Access) then Some access_of
-      else None))))))))))))))))))
+      else None))))))))))))))))))))
 
   -- `id`, `after`, then the fields of the row
   abbrev pub with_head : Result Body BadLine → Result Request BadLine
@@ -264,10 +210,6 @@ what_of (Err bad) = what.Bad bad
 
 abbrev pub asked_by : (List ℕ → Option Data) → Asked
 asked_by look = record { id = id_of look; what = what_of (request_of look) }
-
--- what stands at a key of a value
-abbrev pub looking : Data → List ℕ → Option Data
-looking d k = get k d
 
 abbrev pub asked_of : Option Data → Asked
 asked_of None = record { id = None; what = what.Bad NotJson }

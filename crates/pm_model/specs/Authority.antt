@@ -147,4 +147,4 @@ permitted G u q change = unless (first_denied G u q (required G change)) change
 
 -- the change that a command names, where the user and the process may make it
 abbrev pub ruling : Graph → ℕ → Option ℕ → Command → Result Change Refusal
-ruling G u q command = and_then (resolve G command) (permitted G u q)
+ruling G u q command = and_then (resolve G u command) (permitted G u q)

@@ -6,7 +6,9 @@ pub mod Causes
 pub mod Containment
 pub mod Decision
 pub mod Effect
+pub mod Events
 pub mod Formed
+pub mod Forms
 pub mod History
 pub mod Lines
 pub mod Made
@@ -15,6 +17,7 @@ pub mod NameFields
 pub mod Nameable
 pub mod Object
 pub mod Obligations
+pub mod Operations
 pub mod Prohibitions
 pub mod Recorded
 pub mod Resolve

@@ -12,7 +12,13 @@ use Rattle.pm_model.specs.declared.requests.Change.{Change}
 use Rattle.pm_model.specs.declared.requests.Change.TheVariants as change
 use Rattle.pm_model.specs.RightSet.{bit_named, with_right}
 use Rattle.pm_model.specs.Sessions.{is_process}
+use Rattle.pm_model.specs.Operations.{is_operation}
+use Rattle.pm_model.specs.Obligations as obliged
 use Rattle.pm_model.specs.Prohibitions.{place_called}
+use Rattle.pm_model.specs.declared.actions.Action.{Action}
+use Rattle.pm_model.specs.declared.events.Pattern.{Pattern}
+use Rattle.pm_model.specs.declared.events.When.{When}
+use Rattle.pm_model.specs.declared.obligations.Obligation.{Obligation}
 use Rattle.pm_model.specs.declared.prohibitions.Prohibition.{Prohibition}
 use Rattle.pm_model.specs.declared.prohibitions.Mode.{Mode}
 use Rattle.pm_model.specs.declared.prohibitions.Subject.{Subject}
@@ -64,17 +70,36 @@ abbrev pub prohibition : List ℕ → Subject ℕ ℕ → ℕ → List ℕ → L
 prohibition name subject rights inc exc mode =
     record { name = name; subject = subject; rights = rights; inc = inc; exc = exc; mode = mode }
 
-abbrev pub resolve : Graph → Command → Result Change Refusal
-resolve G (command.CreatePc name) = Ok (change.Create (unused G.elements) Pc name None)
-resolve G (command.Create kind name into) = and_then (look_up G into) (λ c. Ok (change.Create (unused G.elements) kind name (Some c)))
-resolve G (command.Delete name) = and_then (look_up G name) (λ n. Ok (change.Delete n))
-resolve G (command.Assign from to) = and_then (look_up_both G from to) (λ p. Ok (change.Assign p.0 p.1))
-resolve G (command.Deassign from to) = and_then (look_up_both G from to) (λ p. Ok (change.Deassign p.0 p.1))
-resolve G (command.Associate ua rights at) =
-    and_then (look_up G ua) (λ u. and_then (look_up_rights G rights) (λ r. and_then (look_up G at) (λ t. Ok (change.Associate u r t))))
-resolve G (command.Dissociate ua at) = and_then (look_up_both G ua at) (λ p. Ok (change.Dissociate p.0 p.1))
-resolve G (command.Prohibit name subject rights inc exc mode) =
+-- an element that may be left out
+abbrev pub look_up_if : Graph → Option (List ℕ) → Result (Option ℕ) Refusal
+look_up_if G None = Ok None
+look_up_if G (Some name) = and_then (look_up G name) (λ n. Ok (Some n))
+
+abbrev pub look_up_operation : Graph → List ℕ → Result (List ℕ) Refusal
+look_up_operation G name = if is_operation G.rights name then Ok name else Err (UnknownName name)
+
+abbrev pub look_up_when : Graph → When → Result Pattern Refusal
+look_up_when G when =
+    and_then (look_up_operation G when.on) (λ on. and_then (look_up_if G when.user) (λ user.
+    and_then (look_up_if G when.target) (λ target. Ok (record { on = on; user = user; target = target }))))
+
+abbrev pub obligation : List ℕ → ℕ → Pattern → List Action → Obligation
+obligation name author pattern response = record { name = name; author = author; pattern = pattern; response = response }
+
+-- the user who gives a command is the author of what it obliges
+abbrev pub resolve : Graph → ℕ → Command → Result Change Refusal
+resolve G u (command.CreatePc name) = Ok (change.Create (unused G.elements) Pc name None)
+resolve G u (command.Create kind name into) = and_then (look_up G into) (λ c. Ok (change.Create (unused G.elements) kind name (Some c)))
+resolve G u (command.Delete name) = and_then (look_up G name) (λ n. Ok (change.Delete n))
+resolve G u (command.Assign from to) = and_then (look_up_both G from to) (λ p. Ok (change.Assign p.0 p.1))
+resolve G u (command.Deassign from to) = and_then (look_up_both G from to) (λ p. Ok (change.Deassign p.0 p.1))
+resolve G u (command.Associate ua rights at) =
+    and_then (look_up G ua) (λ a. and_then (look_up_rights G rights) (λ r. and_then (look_up G at) (λ t. Ok (change.Associate a r t))))
+resolve G u (command.Dissociate ua at) = and_then (look_up_both G ua at) (λ p. Ok (change.Dissociate p.0 p.1))
+resolve G u (command.Prohibit name subject rights inc exc mode) =
     and_then (look_up_subject G subject) (λ s. and_then (look_up_rights G rights) (λ r.
     and_then (look_up_all G inc) (λ i. and_then (look_up_all G exc) (λ e. Ok (change.Prohibit (prohibition name s r i e mode))))))
-resolve G (command.Lift name) = and_then (known name (place_called G.prohibitions name)) (λ i. Ok (change.Lift i))
-resolve G (command.DefineRight name) = Ok (change.DefineRight name)
+resolve G u (command.Lift name) = and_then (known name (place_called G.prohibitions name)) (λ i. Ok (change.Lift i))
+resolve G u (command.DefineRight name) = Ok (change.DefineRight name)
+resolve G u (command.Oblige name when response) = and_then (look_up_when G when) (λ pattern. Ok (change.Oblige (obligation name u pattern response)))
+resolve G u (command.Withdraw name) = and_then (known name (obliged.place_called G.obligations name)) (λ i. Ok (change.Withdraw i))

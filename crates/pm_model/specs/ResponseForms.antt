@@ -4,7 +4,7 @@ use Rattle.std.specs.Prelude.{ℕ, Bool, true, false, if◌then◌else◌, ◌+�
 use Rattle.serde_json.specs.Data.{Data, Items, no_items, item}
 use Rattle.serde_json.specs.Find.{get, as_str, as_array}
 use Rattle.pm_model.specs.Actions.{response_refusal}
-use Rattle.pm_model.specs.Asked.{distinct, if_name, list_of, listed_form, looking, mode_form, name_form, short_form, subject_by}
+use Rattle.pm_model.specs.Forms.{distinct, if_name, list_of, listed_form, looking, mode_form, name_form, short_form, subject_by}
 use Rattle.pm_model.specs.Words.{key_text, word_text}
 use Rattle.pm_model.specs.declared.words.Key.{Key}
 use Rattle.pm_model.specs.declared.words.Key.TheVariants as key

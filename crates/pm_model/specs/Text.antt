@@ -1,5 +1,5 @@
 -- The line of a reply: an object with these members, a row for each reply. The project's own.
-use Rattle.std.specs.Prelude.{ℕ, List, [], ◌∷◌, ◌++◌, Option, None, Some}
+use Rattle.std.specs.Prelude.{ℕ, List, [], ◌∷◌, ◌++◌, ◌==◌, if◌then◌else◌, Option, None, Some}
 use Rattle.serde_json.specs.Data.{Data}
 use Rattle.pm_model.specs.Object.{line_of, whole, whole_if, texted}
 use Rattle.pm_model.specs.Words.{key_text, word_text}
@@ -14,7 +14,7 @@ use Rattle.pm_model.specs.declared.replies.Refusal.TheVariants as refusal
 use Rattle.pm_model.specs.declared.replies.Table.{Table}
 use Rattle.pm_model.specs.declared.replies.Table.TheVariants.{Elements, Assignments, Associations, Prohibitions, Obligations, Sessions, Processes, Rights, History}
 use Rattle.pm_model.specs.declared.replies.Reply.{Reply}
-use Rattle.pm_model.specs.declared.replies.Reply.TheVariants.{Done, Granted, Bad, Ahead, Refused}
+use Rattle.pm_model.specs.declared.replies.Reply.TheVariants.{Done, Granted, Bad, Ahead, Refused, ResponseRefused}
 use Rattle.pm_model.specs.declared.replies.Reason.{Reason}
 use Rattle.pm_model.specs.declared.replies.Reason.TheVariants.{Class, Prohibition}
 use Rattle.pm_model.specs.declared.replies.Shown.{Shown}
@@ -35,8 +35,6 @@ table_word History = word.History
 abbrev pub said : Word → Option Data
 said w = texted (word_text w)
 
--- the members before `v`, in alphabetical order
-
 -- a refusal that says no more than its word
 abbrev pub no_front : Head → Word → List (List ℕ × Option Data)
 no_front h why = (key_text key.Id, whole_if h.id) ∷ (key_text key.No, said why) ∷ []
@@ -48,9 +46,12 @@ bad_front h NotRequest = no_front h word.NotRequest
 bad_front h UnknownCommand = no_front h word.UnknownCommand
 bad_front h (BadField k) = (key_text key.Field, texted (key_text k)) ∷ no_front h word.BadField
 
--- a request that is granted
-abbrev pub ok_front : Head → Word → List (List ℕ × Option Data)
-ok_front h what = (key_text key.Id, whole_if h.id) ∷ (key_text key.Ok, said what) ∷ []
+-- how many obligations responded, where some did
+abbrev pub fired_if : ℕ → Option ℕ
+fired_if n = if n == 0 then None else Some n
+
+abbrev pub granted_front : Head → ℕ → List (List ℕ × Option Data)
+granted_front h fired = (key_text key.Fired, whole_if (fired_if fired)) ∷ (key_text key.Id, whole_if h.id) ∷ (key_text key.Ok, said word.Granted) ∷ []
 
 abbrev pub process_shown : Shown → Option ℕ
 process_shown (shown.Process n) = Some n
@@ -65,8 +66,9 @@ abbrev pub made_front : Shown → List (List ℕ × Option Data)
 made_front made = (key_text key.Process, whole_if (process_shown made)) ∷ (key_text key.Session, whole_if (session_shown made)) ∷ []
 
 -- a request that is accepted
-abbrev pub done_front : Head → Shown → List (List ℕ × Option Data)
-done_front h made = (key_text key.Id, whole_if h.id) ∷ (key_text key.Ok, said word.Done) ∷ made_front made
+abbrev pub done_front : Head → ℕ → Shown → List (List ℕ × Option Data)
+done_front h fired made =
+    (key_text key.Fired, whole_if (fired_if fired)) ∷ (key_text key.Id, whole_if h.id) ∷ (key_text key.Ok, said word.Done) ∷ made_front made
 
 abbrev pub unknown_front : Head → List ℕ → List (List ℕ × Option Data)
 unknown_front h name = (key_text key.Id, whole_if h.id) ∷ (key_text key.Name, texted name) ∷ (key_text key.No, said word.UnknownName) ∷ []
@@ -111,21 +113,51 @@ refusal_front h names refusal.Builtin = no_front h word.Builtin
 refusal_front h names refusal.EmptyRange = no_front h word.EmptyRange
 refusal_front h names (refusal.Full table) = full_front h table
 
+-- the word of a refusal
+abbrev pub refusal_word : Refusal → Word
+refusal_word refusal.UnknownProcess = word.UnknownProcess
+refusal_word refusal.UnknownSession = word.UnknownSession
+refusal_word (refusal.UnknownName name) = word.UnknownName
+refusal_word (refusal.Denied right target reason) = word.Denied
+refusal_word refusal.BadKinds = word.BadKinds
+refusal_word refusal.NameTaken = word.NameTaken
+refusal_word refusal.Already = word.Already
+refusal_word refusal.Absent = word.Absent
+refusal_word refusal.Cycle = word.Cycle
+refusal_word refusal.Occupied = word.Occupied
+refusal_word refusal.InUse = word.InUse
+refusal_word refusal.LastContainer = word.LastContainer
+refusal_word refusal.Builtin = word.Builtin
+refusal_word refusal.EmptyRange = word.EmptyRange
+refusal_word (refusal.Full table) = word.Full
+
+-- a response that is refused, of which the reason is told by its word
+abbrev pub response_front : Head → List ℕ → ℕ → Refusal → List (List ℕ × Option Data)
+response_front h obligation action why =
+    (key_text key.Action, whole action) ∷ (key_text key.Id, whole_if h.id) ∷ (key_text key.No, said word.ResponseRefused)
+    ∷ (key_text key.Obligation, texted obligation) ∷ []
+
+-- the members before `v`, in alphabetical order
 abbrev pub front : Head → (ℕ → List ℕ) → Reply → List (List ℕ × Option Data)
-front h names (Done made) = done_front h made
-front h names Granted = ok_front h word.Granted
+front h names (Done fired made) = done_front h fired made
+front h names (Granted fired) = granted_front h fired
 front h names (Bad bad) = bad_front h bad
 front h names Ahead = no_front h word.Ahead
 front h names (Refused why) = refusal_front h names why
+front h names (ResponseRefused obligation action why) = response_front h obligation action why
 
--- the version comes last
-abbrev pub with_version : ℕ → List (List ℕ × Option Data) → List (List ℕ × Option Data)
-with_version v members = members ++ (key_text key.V, whole v) ∷ []
+-- the member behind the version: the word of the reason for which a response is refused
+abbrev pub back : Reply → List (List ℕ × Option Data)
+back (ResponseRefused obligation action why) = (key_text key.Why, said (refusal_word why)) ∷ []
+back _ = []
+
+abbrev pub with_version : ℕ → List (List ℕ × Option Data) → List (List ℕ × Option Data) → List (List ℕ × Option Data)
+with_version v before behind = before ++ (key_text key.V, whole v) ∷ behind
 
 -- the reply to a line with this id, at this version, where elements have these names
 abbrev pub text : Option ℕ → ℕ → (ℕ → List ℕ) → Reply → List ℕ
-text id v names reply = line_of (with_version v (front (record { id = id }) names reply))
+text id v names reply = line_of (with_version v (front (record { id = id }) names reply) (back reply))
 
 -- the reply to a bad form, whatever names elements have
 abbrev pub bad_text : Option ℕ → ℕ → BadLine → List ℕ
-bad_text id v bad = line_of (with_version v (bad_front (record { id = id }) bad))
+bad_text id v bad = line_of (with_version v (bad_front (record { id = id }) bad) [])

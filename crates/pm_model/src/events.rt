@@ -1,9 +1,12 @@
 //! Events, and the patterns that say which of them an obligation waits for.
 
-ghost use Rattle.std.specs.Prelude.{◌≡◌};
+ghost use Rattle.std.specs.Prelude.{◌≡◌, IfOk};
 
 use crate::elements::ElementId;
+use crate::memory::Memory;
 use crate::names::Name;
+use std::alloc::Global;
+use std::marker::Model;
 
 /// What a granted access or an accepted command raises: the user who acted, by which process, what was done
 /// (the name of the access right or the word of the command), and the element that it was done to. Source: the
@@ -32,6 +35,45 @@ pub struct When {
     pub on: Name,
     pub user: Option<Name>,
     pub target: Option<Name>,
+}
+
+/// The same, kept apart from what it stands in, which so stays small. Contracts see what is kept.
+#[derive(Drop)]
+pub struct Awaited {
+    when: Box<When>,
+}
+
+impl Model for Awaited {
+    ghost use Rattle.pm_model.specs.declared.events.When.{When};
+
+    ghost Value = { When };
+
+    ghost view = { λ a. a.when.value };
+}
+
+impl Awaited {
+    /// Keeps this.
+    pub fn new(alloc: Global, when: When) -> Result<Awaited, Memory>
+        ensures { IfOk result (λ kept. kept ≡ when) }
+    {
+        let when = Box::new(alloc, when)?;
+        Ok(Awaited { when })
+    }
+
+    /// What is kept.
+    pub fn when(&self) -> &When
+        ensures { result.now ≡ self.now }
+    {
+        &self.when
+    }
+
+    /// The same once more.
+    pub fn copy(&self) -> Result<Awaited, Memory>
+        ensures { IfOk result (λ same. same ≡ self.now) }
+    {
+        let when = Box::new(*Box::allocator(&self.when), *self.when)?;
+        Ok(Awaited { when })
+    }
 }
 
 impl Pattern {

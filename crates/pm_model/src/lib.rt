@@ -22,7 +22,7 @@ mod words;
 
 pub use actions::{Act, Action, ActionList, Guard, GuardList, ProcessTerm, Term, TermList};
 pub use elements::{Element, ElementId, Kind};
-pub use events::{Event, EventNames, Pattern, When};
+pub use events::{Awaited, Event, EventNames, Pattern, When};
 pub use laws::containment_is_path;
 pub use lines::{BadLine, Head, LineEvent};
 pub use lists::{ClassList, ItemList, NameList, PlaceList};

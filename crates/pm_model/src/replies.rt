@@ -107,14 +107,25 @@ pub enum ChangeError {
 /// The machine's reply to a line.
 #[derive(Drop)]
 pub enum Reply {
-    /// The request is accepted, or it asked for the version alone.
-    Done { shown: Shown },
-    /// The access is granted.
-    Granted,
+    /// The request is accepted, or it asked for the version alone. So many obligations responded.
+    Done {
+        fired: u32,
+        shown: Shown,
+    },
+    /// The access is granted. So many obligations responded.
+    Granted {
+        fired: u32,
+    },
     /// The line is no request.
     Bad(BadLine),
     /// The request names a version that the machine hasn't reached.
     Ahead,
     /// The request is refused.
     Refused(Refusal),
+    /// The request is refused since a response to it is: the name of its obligation, the action's number, from 1, and why.
+    ResponseRefused {
+        obligation: Name,
+        action: u32,
+        why: Refusal,
+    },
 }

@@ -3,11 +3,12 @@
 ghost use Rattle.std.specs.Prelude.{◌≡◌, IfOk};
 
 use crate::elements::{ElementId, Kind};
+use crate::events::Awaited;
 use crate::lines::BadLine;
 use crate::lists::NameList;
 use crate::memory::Memory;
 use crate::names::Name;
-use crate::obligations::Obligation;
+use crate::obligations::{Obligation, Response};
 use crate::prohibitions::{Mode, Prohibition, Subject};
 use crate::rights::Rights;
 
@@ -66,6 +67,16 @@ pub enum Command {
     DefineRight {
         name: Name,
     },
+    /// Let the response be done, by the authority of the user who gives the command, whenever such an event happens.
+    Oblige {
+        name: Name,
+        when: Awaited,
+        response: Response,
+    },
+    /// Take the obligation of this name away.
+    Withdraw {
+        name: Name,
+    },
 }
 
 impl Command {
@@ -112,6 +123,16 @@ impl Command {
             },
             Command::Lift { name } => Command::Lift { name: *name },
             Command::DefineRight { name } => Command::DefineRight { name: *name },
+            Command::Oblige {
+                name,
+                when,
+                response,
+            } => Command::Oblige {
+                name: *name,
+                when: when.copy()?,
+                response: response.copy()?,
+            },
+            Command::Withdraw { name } => Command::Withdraw { name: *name },
         })
     }
 }

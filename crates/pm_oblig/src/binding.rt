@@ -9,7 +9,8 @@ use pm_model::{
     TermList,
 };
 
-fn name_of(names: &EventNames, fresh: Name, term: &Term) -> Name
+/// The name that the word stands for: a name itself, what the event's user or target is called, or the name that is new.
+pub fn name_of(names: &EventNames, fresh: Name, term: &Term) -> Name
     ensures { result ≡ name_of names.now fresh term.now }
 {
     match term {

@@ -19,9 +19,10 @@ fn put_decimal(text: &mut ArrayString<64>, n: u64)
     text.push_str(buffer.format(n));
 }
 
-/// The fresh name. It takes no memory.
+/// The name that is new at this place and this version, of what an action makes and gives no other name. It takes no
+/// memory.
 #[tactic(auto, using(crate::proofs::FreshNames::fresh_is_name))]
-pub(crate) fn fresh_name(place: Place, version: u64) -> Name
+pub fn fresh_name(place: Place, version: u64) -> Name
     ensures { result ≡ fresh_name place version }
 {
     let mut text: ArrayString<64> = ArrayString::new();

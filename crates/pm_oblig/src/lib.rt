@@ -9,8 +9,9 @@ mod items;
 mod laws;
 mod table;
 
-pub use binding::bind;
+pub use binding::{bind, name_of};
 pub use errors::{ObligError, change_error};
+pub use fresh::fresh_name;
 pub use laws::responses_computed;
 pub use table::Obligations;
 

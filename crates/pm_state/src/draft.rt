@@ -11,8 +11,9 @@ use pm_history::{History, HistoryError};
 use pm_model::{Change, ChangeError, Entry, Made};
 use std::marker::Model;
 
-/// A copy of a state in which one change after another is made, to be one entry together or none. So far
-/// each request comes to one change, which [`State::enter`] makes in place: only tests make drafts.
+/// A copy of a state in which one change after another is made, to be one entry together or none. A
+/// change to which nothing responds is made in place, by [`State::enter`]; a request to which obligations
+/// respond is made in a draft.
 #[derive(Drop)]
 pub struct Draft {
     graph: Graph,

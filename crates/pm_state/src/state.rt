@@ -1,4 +1,4 @@
-ghost use Rattle.std.specs.Prelude.{◌≡◌, ◌<◌, ◌≤◌, ◌∷◌, ◌++◌, [], Ok, length, slice_get, OnOk, OnErr, IfOk, IfErr};
+ghost use Rattle.std.specs.Prelude.{◌≡◌, ◌<◌, ◌≤◌, ◌∷◌, ◌++◌, [], None, Ok, length, slice_get, OnOk, OnErr, IfOk, IfErr};
 ghost use Rattle.std.specs.Option.{option_copied};
 ghost use Rattle.pm_model.specs.Effect.{effect, IsCause};
 ghost use Rattle.pm_model.specs.Formed.{IsNamed};
@@ -103,11 +103,11 @@ impl State {
         }
     }
 
-    /// Makes one change in place as an entry of the history, or tells the first precondition that isn't
-    /// met, a full history last. A refusal leaves the state, and so does want of memory.
+    /// Makes one change, to which nothing responds, in place as an entry of the history, or tells the first
+    /// precondition that isn't met, a full history last. A refusal leaves the state, and so does want of memory.
     pub fn enter(&mut self, change: &Change, entry: Entry) -> Result<Made, ChangeError>
         requires named { IsNamed self.old.graph change.now }
-        requires asked { proposed (state_of self.old) entry.request ≡ entered (state_of self.old) (Ok change.now) }
+        requires asked { proposed (state_of self.old) entry.request ≡ entered (state_of self.old) None change.now }
         ensures ok { OnOk result (effect self.old.graph change.now ≡ Ok self.new.graph) }
         ensures history { OnOk result (self.new.history ≡ self.old.history ++ entry ∷ []) }
         ensures room { OnOk result (length self.old.history < longest_history) }

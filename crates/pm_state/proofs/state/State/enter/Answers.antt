@@ -1,4 +1,4 @@
-use Rattle.std.proofs.Common.{◌≡◌, Ok, sym, subst, arith}
+use Rattle.std.proofs.Common.{◌≡◌, None, refl, sym, subst, arith}
 use Rattle.pm_model.specs.Answer.{entered, proposed}
 use Rattle.pm_model.specs.History.{Machine, state_of}
 use Rattle.pm_laws.proofs.Replayed.{answered-by, grown}
@@ -13,9 +13,9 @@ invariant_of-self-in-Ok-change c =
     let kept = c.self.invariant in
     let room = c.in-Ok.ensures.room in
     let limit = kept.limit in
-    let asked : proposed (state_of M) request ≡ entered (state_of M) (Ok c.args.change.now) =
-    subst (λ (N : Machine). proposed (state_of N) request ≡ entered (state_of N) (Ok c.args.change.now)) (sym c.self.view_is) c.requires.asked in
-    let answered = answered-by M request c.args.change.now c.change.new.self kept.replayed asked c.in-Ok-change.ensures.ok in
+    let asked : proposed (state_of M) request ≡ entered (state_of M) None c.args.change.now =
+    subst (λ (N : Machine). proposed (state_of N) request ≡ entered (state_of N) None c.args.change.now) (sym c.self.view_is) c.requires.asked in
+    let answered = answered-by M request None c.args.change.now c.change.new.self kept.replayed asked refl c.in-Ok-change.ensures.ok in
     rw c.in-Ok.ensures.ok (record {
       replayed = grown made c.args.entry kept.replayed.legal answered (omega (arith, room, limit));
       limit = limit;
