@@ -8,7 +8,7 @@ use Rattle.pm_model.specs.State.{Graph, root}
 use Rattle.pm_model.specs.Sessions.{user_of}
 use Rattle.pm_model.specs.Resolve.{resolve}
 use Rattle.pm_model.specs.Authority.{right_to_create, to_prohibit_to, subject_element, prohibited_at, watched_at, obliged_at, required, is_administrative, denial_in, denied_unless, first_denied, permitted, ruling}
-use Rattle.pm_model.specs.Formed.{Each, IsLive, IsNamed, IsWellFormed, IsSubjectLive, IsProhibition, IsObligation}
+use Rattle.pm_model.specs.Formed.{Each, IsLive, IsUser, IsNamed, IsWellFormed, IsSubjectLive, IsProhibition, IsObligation}
 use Rattle.pm_model.specs.declared.elements.Kind.{Kind}
 use Rattle.pm_model.specs.declared.elements.Kind.TheVariants.{User, Ua, Object, Oa, Pc}
 use Rattle.pm_model.specs.declared.events.Pattern.{Pattern}
@@ -167,27 +167,27 @@ module _ (G : Graph) (u : ℕ) (q : Option ℕ) where
 
   -- a ruling is the change that the names resolve to, where nothing that it asks for is denied
   pub ruling-resolved : (c : Command) (d : Change) → ruling G u q c ≡ Ok d →
-      (resolve G c ≡ Ok d) × (first_denied G u q (required G d) ≡ None)
+      (resolve G u c ≡ Ok d) × (first_denied G u q (required G d) ≡ None)
   ruling-resolved c d h =
-      let p = and_then-ok (resolve G c) (permitted G u q) d h in
+      let p = and_then-ok (resolve G u c) (permitted G u q) d h in
       let w = unless-ok (first_denied G u q (required G p.0)) p.0 d p.2 in
-      subst (λ (a : Change). (resolve G c ≡ Ok a) × (first_denied G u q (required G a) ≡ None)) w.1 (p.1, w.0)
+      subst (λ (a : Change). (resolve G u c ≡ Ok a) × (first_denied G u q (required G a) ≡ None)) w.1 (p.1, w.0)
 
   pub ruled_exactly : (c : Command) (d : Change) →
-      (ruling G u q c ≡ Ok d) ↔ ((resolve G c ≡ Ok d) × Each (λ (c : ℕ × ℕ). denial_in G u q c.0 c.1 ≡ None) (required G d))
+      (ruling G u q c ≡ Ok d) ↔ ((resolve G u c ≡ Ok d) × Each (λ (c : ℕ × ℕ). denial_in G u q c.0 c.1 ≡ None) (required G d))
   ruled_exactly c d = (to, from) where
-    to : ruling G u q c ≡ Ok d → (resolve G c ≡ Ok d) × Each IsAllowed (required G d)
+    to : ruling G u q c ≡ Ok d → (resolve G u c ≡ Ok d) × Each IsAllowed (required G d)
     to h = let p = ruling-resolved c d h in (p.0, (first_denied-none (required G d)).0 p.1)
 
-    from : (resolve G c ≡ Ok d) × Each IsAllowed (required G d) → ruling G u q c ≡ Ok d
+    from : (resolve G u c ≡ Ok d) × Each IsAllowed (required G d) → ruling G u q c ≡ Ok d
     from p = rw (p.0, (first_denied-none (required G d)).1 p.1) refl
 
 -- what a ruling names is live
-pub ruling-named : (G : Graph) (u : ℕ) (q : Option ℕ) (c : Command) (d : Change) → ruling G u q c ≡ Ok d → IsNamed G d
-ruling-named G u q c d h = resolve-named G c d (ruling-resolved G u q c d h).0
+pub ruling-named : (G : Graph) (u : ℕ) (q : Option ℕ) (c : Command) (d : Change) → IsUser G.elements u → ruling G u q c ≡ Ok d → IsNamed G d
+ruling-named G u q c d user h = resolve-named G u c d user (ruling-resolved G u q c d h).0
 
 -- the root user may give each command
-pub root_may_all : (G : Graph) (q : Option ℕ) (c : Command) (d : Change) → resolve G c ≡ Ok d → ruling G root q c ≡ Ok d
+pub root_may_all : (G : Graph) (q : Option ℕ) (c : Command) (d : Change) → resolve G root c ≡ Ok d → ruling G root q c ≡ Ok d
 root_may_all G q c d is = (ruled_exactly G root q c d).1 (
   is,
   each-to (λ (c : ℕ × ℕ). is_administrative c.0 ≡ true) (IsAllowed G root q)

@@ -34,7 +34,7 @@ examples_in_use = (refl, (refl, (refl, (refl, (refl, (refl, tt))))))
 
 pub examples_ruled : Each (λ row. ruling wards row.0 row.1 row.2 ≡ row.3) ruled
 unfolding contained opening_rights
-examples_ruled = (refl, (refl, (refl, (refl, (refl, (refl, (refl, (refl, (refl, tt)))))))))
+examples_ruled = (refl, (refl, (refl, (refl, (refl, (refl, (refl, (refl, (refl, (refl, (refl, tt)))))))))))
 
 pub examples_unformed : Each (λ G. IsWellFormed G → ⊥) unformed
 unfolding contained opening_rights

@@ -5,6 +5,7 @@ mod Asking
 pub mod Assigned
 pub mod Associations
 pub mod Authority
+pub mod Bodies
 pub mod Checks
 mod Computed
 pub mod Deleted
@@ -28,6 +29,7 @@ pub mod Prohibitions
 pub mod Recorded
 pub mod Replayed
 pub mod Resolved
+pub mod Responding
 pub mod RightNames
 pub mod Shape
 pub mod Standard

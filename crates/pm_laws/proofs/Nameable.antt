@@ -1,9 +1,8 @@
 -- The elements that an answer tells are live in the state after it: a denial alone tells any, and it leaves the state.
-use Rattle.std.proofs.Common.{◌≡◌, ℕ, ◌==◌, Bool, IsTrue, List, [], ◌∷◌, Option, Some, None, is_some, Result, Ok, Err, IfErr, IfSome, MatchResult, not, ◌&&◌, nat_le, refl, subst}
+use Rattle.std.proofs.Common.{◌≡◌, ℕ, ◌==◌, Bool, IsTrue, List, [], ◌∷◌, length, Option, Some, None, is_some, Result, Ok, Err, IfErr, IfSome, not, ◌&&◌, refl, subst}
 use Rattle.std.specs.Bool.{⊤}
 use Rattle.std.proofs.lemmas.Bool.{cond_both}
 use Rattle.std.proofs.lemmas.Option.{same_Some}
-use Rattle.pm_model.specs.Results.{and_then}
 use Rattle.pm_model.specs.State.{State, Graph, root, element_at, classes_in}
 use Rattle.pm_model.specs.Containment.{contained}
 use Rattle.pm_model.specs.RightSet.{bit_named, is_access_right}
@@ -12,31 +11,33 @@ use Rattle.pm_model.specs.Decision.{classes_of, is_met}
 use Rattle.pm_model.specs.Resolve.{look_up, resolve}
 use Rattle.pm_model.specs.Effect.{effect}
 use Rattle.pm_model.specs.Made.{made_by, shown_of}
-use Rattle.pm_model.specs.Answer.{Answer, told, made, entered, acting, if_access, granted_unless, accessed, reply_or, answer_body, is_ahead, proposed, longest_history, answer, after}
+use Rattle.pm_model.specs.Answer.{Answer, responded, settled, made, entered, acting, if_access, allowed_unless, accessed, granted_with, granted, or_refused, administered, answer_access, answer_body, answer, after}
+use Rattle.pm_model.specs.Events.{event, obliging, raised, responders}
+use Rattle.pm_model.specs.Responses.{Stopped}
 use Rattle.pm_model.specs.Authority.{lacking_in, forbidding_in, reason_of, is_administrative, denial_in, denied_unless, first_denied, required, permitted, ruling}
 use Rattle.pm_model.specs.Nameable.{IsReasonNameable, IsRefusalNameable, IsNameable}
-use Rattle.pm_model.specs.Formed.{Each, IsLive, IsWellFormed}
+use Rattle.pm_model.specs.Formed.{Each, IsLive, IsUser, IsWellFormed}
+use Rattle.pm_model.specs.declared.events.Event.{Event}
+use Rattle.pm_model.specs.declared.obligations.Obligation.{Obligation}
 use Rattle.pm_model.specs.declared.requests.Command.{Command}
 use Rattle.pm_model.specs.declared.requests.Change.{Change}
 use Rattle.pm_model.specs.declared.requests.Change.TheVariants.{OpenSession, CloseSession, StartProcess, EndProcess}
 use Rattle.pm_model.specs.declared.requests.Request.{Request}
 use Rattle.pm_model.specs.declared.requests.Body.{Body}
 use Rattle.pm_model.specs.declared.requests.Body.TheVariants as body
-use Rattle.pm_model.specs.declared.requests.Body.TheVariants.{Version, Access, Admin}
 use Rattle.pm_model.specs.declared.prohibitions.Prohibition as prohibitions
 use Rattle.pm_model.specs.declared.replies.Reason.{Reason}
 use Rattle.pm_model.specs.declared.replies.Reason.TheVariants.{Class, Prohibition}
 use Rattle.pm_model.specs.declared.replies.Refusal.{Refusal}
-use Rattle.pm_model.specs.declared.replies.Refusal.TheVariants.{UnknownName, Full}
+use Rattle.pm_model.specs.declared.replies.Refusal.TheVariants.{UnknownName}
 use Rattle.pm_model.specs.declared.replies.Shown.{Shown}
-use Rattle.pm_model.specs.declared.replies.Table.TheVariants.{History}
-use Rattle.pm_model.specs.declared.replies.Reply.{Reply}
-use Rattle.pm_model.specs.declared.replies.Reply.TheVariants.{Ahead, Refused}
+use Rattle.pm_model.specs.declared.replies.Reply.TheVariants.{Done, Granted}
 use Rattle.pm_laws.proofs.Items.{find-found, filter-contains}
 use Rattle.pm_laws.proofs.Resolved.{looked_up-live, resolve-named}
 use Rattle.pm_laws.proofs.Authority.{required-live}
 use Rattle.pm_laws.proofs.Live.{class-live}
 use Rattle.pm_laws.proofs.Told.{and_then-of, unless-err, IsTellable, IsTold, then-told, look_up-told, resolve-told, effect-told}
+use Rattle.pm_laws.proofs.Bodies.{acting-user, answer-is}
 
 module _ (named : ℕ → Bool) where
   -- ---- accesses
@@ -52,14 +53,10 @@ module _ (named : ℕ → Bool) where
       cond_both (is_access_right bit) (Ok bit) (Err (UnknownName name)) (λ (r : Result ℕ Refusal). IsTold named r) (λ is. tt) (λ is. tt)
   access-told name None = tt
 
-  granted-nameable : (right : List ℕ) (target : ℕ) (o : Option Reason) → IsTrue (named target) →
-      ((reason : Reason) → o ≡ Some reason → IsReasonNameable named reason) → IsNameable named (granted_unless right target o)
-  granted-nameable right target (Some reason) live why = (live, why reason refl)
-  granted-nameable right target None live why = tt
-
-  reply_or-nameable : (r : Result Reply Refusal) → MatchResult r (IsNameable named) (IsTellable named) → IsNameable named (reply_or r)
-  reply_or-nameable (Ok reply) h = h
-  reply_or-nameable (Err why) h = h
+  allowed-told : (right : List ℕ) (target : ℕ) (o : Option Reason) → IsTrue (named target) →
+      ((reason : Reason) → o ≡ Some reason → IsReasonNameable named reason) → IsTold named (allowed_unless right target o)
+  allowed-told right target (Some reason) live why = (live, why reason refl)
+  allowed-told right target None live why = tt
 
 -- the class that is told is live
 lacking-live : (G : Graph) (u r e pc : ℕ) → IsWellFormed G → lacking_in G u r e ≡ Some pc → IsLive G.elements pc
@@ -87,23 +84,13 @@ module _ (G : Graph) where
   abbrev named-in : ℕ → Bool
   named-in n = is_some (element_at G.elements n)
 
-  accessed-nameable : (u q : ℕ) (right target : List ℕ) → IsWellFormed G →
-      MatchResult (accessed G u q right target) (IsNameable named-in) (IsTellable named-in)
-  accessed-nameable u q right target f =
-      and_then-of (IsNameable named-in) (IsTellable named-in) (if_access right (bit_named G.rights right))
-      (λ bit. and_then (look_up G target) (λ e. Ok (granted_unless right e (denial_in G u (Some q) bit e))))
-      (access-told named-in right (bit_named G.rights right))
-      (λ bit is. and_then-of (IsNameable named-in) (IsTellable named-in) (look_up G target)
-      (λ e. Ok (granted_unless right e (denial_in G u (Some q) bit e))) (look_up-told named-in G target)
-      (λ e at. granted-nameable named-in right e (denial_in G u (Some q) bit e) (looked_up-live G target e at)
+  accessed-told : (u q : ℕ) (right target : List ℕ) → IsWellFormed G → IsTold named-in (accessed G u q right target)
+  accessed-told u q right target f =
+      then-told named-in (if_access right (bit_named G.rights right)) _ (access-told named-in right (bit_named G.rights right))
+      (λ bit. and_then-of (λ _. ⊤) (IsTellable named-in) (look_up G target) (λ e. allowed_unless right e (denial_in G u (Some q) bit e))
+      (look_up-told named-in G target)
+      (λ e at. allowed-told named-in right e (denial_in G u (Some q) bit e) (looked_up-live G target e at)
       (λ reason why. denial-live G u (Some q) bit e reason f why)))
-
-  asked-nameable : (q : ℕ) (right target : List ℕ) → IsWellFormed G →
-      IsNameable named-in (reply_or (and_then (acting G q) (λ u. accessed G u q right target)))
-  asked-nameable q right target f =
-      reply_or-nameable named-in (and_then (acting G q) (λ u. accessed G u q right target))
-      (and_then-of (IsNameable named-in) (IsTellable named-in) (acting G q) (λ u. accessed G u q right target) (acting-told named-in G q)
-      (λ u is. accessed-nameable u q right target f))
 
   -- ---- commands
 
@@ -121,11 +108,11 @@ module _ (G : Graph) where
       (λ reason why. denial-live G u q c.0 c.1 reason f why) (first_denied-told u q cs f live.1)
 
   -- what a ruling's denial tells is live
-  pub ruling-told : (u : ℕ) (q : Option ℕ) (c : Command) → IsWellFormed G → IsTold named-in (ruling G u q c)
-  ruling-told u q c f =
-      and_then-of (λ _. ⊤) (IsTellable named-in) (resolve G c) (permitted G u q) (resolve-told named-in G c)
+  pub ruling-told : (u : ℕ) (q : Option ℕ) (c : Command) → IsWellFormed G → IsUser G.elements u → IsTold named-in (ruling G u q c)
+  ruling-told u q c f user =
+      and_then-of (λ _. ⊤) (IsTellable named-in) (resolve G u c) (permitted G u q) (resolve-told named-in G u c)
       (λ d is. unless-err (IsTellable named-in) (first_denied G u q (required G d)) d
-      (first_denied-told u q (required G d) f (required-live G d f (resolve-named G c d is))))
+      (first_denied-told u q (required G d) f (required-live G d f (resolve-named G u c d user is))))
 
 -- ---- answers
 
@@ -133,39 +120,58 @@ module _ (G : Graph) where
 abbrev IsAfter : State → Answer → Type 0
 IsAfter S a = IsNameable (λ n. is_some (element_at (after S a).graph.elements n)) a.reply
 
-made-nameable : (S : State) (shown : Shown) (r : Result Graph Refusal) →
-    IfErr r (IsRefusalNameable (λ n. is_some (element_at S.graph.elements n))) → IsAfter S (made S.version shown r)
-made-nameable S shown (Ok G) h = tt
-made-nameable S shown (Err why) h = h
+abbrev IsToldIn : {A : Type 0} → State → Result A Refusal → Type 0
+IsToldIn S r = IfErr r (IsRefusalNameable (λ n. is_some (element_at S.graph.elements n)))
 
-entered-nameable : (S : State) (r : Result Change Refusal) → IfErr r (IsRefusalNameable (λ n. is_some (element_at S.graph.elements n))) →
-    IsAfter S (entered S r)
-entered-nameable S (Ok c) h =
-    made-nameable S (shown_of (made_by S.graph c)) (effect S.graph c) (effect-told (λ n. is_some (element_at S.graph.elements n)) S.graph c)
-entered-nameable S (Err why) h = h
+or_refused-nameable : {A : Type 0} (S : State) (r : Result A Refusal) (f : A → Answer) → IsToldIn S r →
+    ((a : A) → r ≡ Ok a → IsAfter S (f a)) → IsAfter S (or_refused r f)
+or_refused-nameable S (Ok a) f h each = each a refl
+or_refused-nameable S (Err why) f h each = h
 
-body-nameable : (S : State) (body : Body) → IsWellFormed S.graph → IsAfter S (answer_body S body)
-body-nameable S Version f = tt
+-- what is accepted, and a response that is refused, tell no element
+settled-done : (S : State) (fired : ℕ) (shown : Shown) (r : Result Graph Stopped) → IsAfter S (settled S (Done fired shown) r)
+settled-done S fired shown (Ok G) = tt
+settled-done S fired shown (Err stop) = tt
+
+settled-granted : (S : State) (fired : ℕ) (r : Result Graph Stopped) → IsAfter S (settled S (Granted fired) r)
+settled-granted S fired (Ok G) = tt
+settled-granted S fired (Err stop) = tt
+
+made-nameable : (S : State) (fired : ℕ) (shown : Shown) (e : Option Event) (obligations : List Obligation) (r : Result Graph Refusal) →
+    IsToldIn S r → IsAfter S (made S (Done fired shown) e obligations r)
+made-nameable S fired shown e obligations (Ok G) h = settled-done S fired shown (responded S e obligations G)
+made-nameable S fired shown e obligations (Err why) h = h
+
+entered-nameable : (S : State) (e : Option Event) (c : Change) → IsAfter S (entered S e c)
+entered-nameable S e c =
+    made-nameable S _ (shown_of (made_by S.graph c)) e (responders S.graph (obliging S.graph c) e) (effect S.graph c)
+    (effect-told (λ n. is_some (element_at S.graph.elements n)) S.graph c)
+
+granted-nameable : (S : State) (e : Event) (obligations : List Obligation) → IsAfter S (granted_with S e obligations)
+granted-nameable S e [] = tt
+granted-nameable S e (o ∷ os) = settled-granted S (length (o ∷ os)) (responded S (Some e) (o ∷ os) S.graph)
+
+body-nameable : (S : State) (b : Body) → IsWellFormed S.graph → IsAfter S (answer_body S b)
+body-nameable S body.Version f = tt
 body-nameable S (body.OpenSession user) f =
-    let live = λ (n : ℕ). is_some (element_at S.graph.elements n) in
-    entered-nameable S (and_then (look_up S.graph user) (λ u. Ok (OpenSession u)))
-    (then-told live (look_up S.graph user) (λ u. Ok (OpenSession u)) (look_up-told live S.graph user) (λ u. tt))
-body-nameable S (body.CloseSession n) f = entered-nameable S (Ok (CloseSession n)) tt
-body-nameable S (body.StartProcess n) f = entered-nameable S (Ok (StartProcess n)) tt
-body-nameable S (body.EndProcess n) f = entered-nameable S (Ok (EndProcess n)) tt
-body-nameable S (Access process right target) f = asked-nameable S.graph process right target f
-body-nameable S (Admin process c) f =
-    let live = λ (n : ℕ). is_some (element_at S.graph.elements n) in
-    entered-nameable S (and_then (acting S.graph process) (λ u. ruling S.graph u (Some process) c))
-    (then-told live (acting S.graph process) (λ u. ruling S.graph u (Some process) c) (acting-told live S.graph process)
-    (λ u. ruling-told S.graph u (Some process) c f))
-
-proposed-nameable : (S : State) (r : Request) → IsWellFormed S.graph → IsAfter S (proposed S r)
-proposed-nameable S r f =
-    cond_both (is_ahead r.after S.version) (told Ahead) (answer_body S r.body) (IsAfter S) (λ is. tt) (λ is. body-nameable S r.body f)
+    or_refused-nameable S (look_up S.graph user) (λ u. entered S None (OpenSession u))
+    (look_up-told (λ n. is_some (element_at S.graph.elements n)) S.graph user) (λ u is. entered-nameable S None (OpenSession u))
+body-nameable S (body.CloseSession n) f = entered-nameable S None (CloseSession n)
+body-nameable S (body.StartProcess n) f = entered-nameable S None (StartProcess n)
+body-nameable S (body.EndProcess n) f = entered-nameable S None (EndProcess n)
+body-nameable S (body.Access q right target) f =
+    or_refused-nameable S (acting S.graph q) (λ u. answer_access S u q right target)
+    (acting-told (λ n. is_some (element_at S.graph.elements n)) S.graph q)
+    (λ u is. or_refused-nameable S (accessed S.graph u q right target) (λ t. granted S (event u q right t))
+    (accessed-told S.graph u q right target f)
+    (λ t is. granted-nameable S (event u q right t) (responders S.graph S.graph.obligations (Some (event u q right t)))))
+body-nameable S (body.Admin q c) f =
+    or_refused-nameable S (acting S.graph q) (λ u. administered S u q (ruling S.graph u (Some q) c))
+    (acting-told (λ n. is_some (element_at S.graph.elements n)) S.graph q)
+    (λ u acts. or_refused-nameable S (ruling S.graph u (Some q) c) (λ d. entered S (raised S.graph u q d) d)
+    (ruling-told S.graph u (Some q) c f (acting-user S.graph q u f acts))
+    (λ d is. entered-nameable S (raised S.graph u q d) d))
 
 pub answer_nameable : (S : State) (r : Request) → IsWellFormed S.graph →
     IsNameable (λ n. is_some (element_at (after S (answer S r)).graph.elements n)) (answer S r).reply
-answer_nameable S r f = let a = proposed S r in
-    cond_both (is_some a.next && nat_le longest_history S.version) (told (Refused (Full History))) a (IsAfter S)
-    (λ is. tt) (λ is. proposed-nameable S r f)
+answer_nameable S r f = answer-is (IsAfter S) S r tt tt (body-nameable S r.body f)

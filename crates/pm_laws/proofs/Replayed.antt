@@ -3,16 +3,18 @@ use Rattle.std.proofs.Common.{◌≡◌, ◌≤◌, ◌<◌, ◌+◌, ◌&&◌, 
 use Rattle.std.proofs.lemmas.Bool.{lt-leb}
 use Rattle.pm_model.specs.State.{State, Graph, opening}
 use Rattle.pm_model.specs.Effect.{effect}
+use Rattle.pm_model.specs.Events.{obliging, responders}
 use Rattle.pm_model.specs.Answer.{Answer, answer, after, proposed, entered, longest_history}
 use Rattle.pm_model.specs.History.{Machine, state_of, replay_from, replay, IsLegalFrom, IsLegal, IsReplayed, IsAnswered}
 use Rattle.pm_model.specs.Formed.{IsWellFormed}
+use Rattle.pm_model.specs.declared.events.Event.{Event}
 use Rattle.pm_model.specs.declared.requests.Request.{Request}
 use Rattle.pm_model.specs.declared.requests.Entry.{Entry}
 use Rattle.pm_model.specs.declared.requests.Change.{Change}
 use Rattle.pm_laws.specs.Meaning.{AreGivenBy, IsReached}
 use Rattle.pm_laws.proofs.Accepted.{IsNext, accepted-next, accepted-room}
 use Rattle.pm_laws.proofs.Formed.{formed-opening}
-use Rattle.pm_laws.proofs.Given.{next-numbers}
+use Rattle.pm_laws.proofs.Bodies.{nothing_responds_to_change}
 use Rattle.pm_laws.proofs.Kept.{formed-answer}
 
 -- ---- one entry more
@@ -45,12 +47,11 @@ standing-opening = record { formed = formed-opening; given = record { sessions =
 
 given-next : (S T : State) → AreGivenBy S → IsNext S T → AreGivenBy T
 given-next S T given next =
-    let by_one = next-numbers S.graph T.graph next.change next.made in
     let counted = next.counted in
     let s = given.sessions in
     let p = given.processes in
-    let s1 = by_one.0 in
-    let p1 = by_one.1 in
+    let s1 = next.given.0.1 in
+    let p1 = next.given.1.1 in
     record { sessions = omega (arith, s, s1, counted); processes = omega (arith, p, p1, counted) }
 
 standing-next : (S : State) (r : Request) → IsStanding S → IsSome (answer S r).next → IsStanding (after S (answer S r))
@@ -121,8 +122,9 @@ grown M e legal answered room =
           ∙ ap (λ (v : ℕ). let s : State = record { graph = M.graph; version = v } in s) (omega (arith, more));
     }
 
--- a request that comes to this change is answered by what the change makes
-pub answered-by : (M : Machine) (r : Request) (c : Change) (H : Graph) → IsReplayed M → proposed (state_of M) r ≡ entered (state_of M) (Ok c) →
+-- a request that comes to this change, to which nothing responds, is answered by what the change makes
+pub answered-by : (M : Machine) (r : Request) (e : Option Event) (c : Change) (H : Graph) → IsReplayed M →
+    proposed (state_of M) r ≡ entered (state_of M) e c → responders M.graph (obliging M.graph c) e ≡ [] →
     effect M.graph c ≡ Ok H → IsAnswered (record { graph = H; history = M.history }) r
-answered-by M r c H replayed proposal made =
-    ap (λ S. (proposed S r).next) replayed.content ∙ ap (λ (a : Answer). a.next) proposal ∙ rw made refl
+answered-by M r e c H replayed proposal none made =
+    ap (λ S. (proposed S r).next) replayed.content ∙ ap (λ (a : Answer). a.next) (proposal ∙ nothing_responds_to_change (state_of M) e c none) ∙ rw made refl

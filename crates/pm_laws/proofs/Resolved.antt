@@ -1,5 +1,5 @@
 -- What a name resolves to is live, one clause of `resolve-named` for each command; so each command keeps well formed.
-use Rattle.std.proofs.Common.{◌≡◌, ◌↔◌, ◌<◌, ◌+◌, ◌^◌, arith, Bool, ℕ, List, [], ◌∷◌, length, Option, Some, None, IsSome, option_map, Result, Ok, Err, true, refl, sym, ◌∙◌, ap, subst, Contains, eq-eqb, bytes_eq}
+use Rattle.std.proofs.Common.{◌≡◌, ◌↔◌, ◌<◌, ◌+◌, ◌^◌, arith, Bool, ℕ, List, [], ◌∷◌, length, Option, Some, None, IsSome, IfSome, option_map, Result, Ok, Err, IfOk, true, refl, sym, ◌∙◌, ap, subst, Contains, eq-eqb, bytes_eq}
 use Rattle.std.specs.List.{list_any, find, position_from}
 use Rattle.std.proofs.lemmas.Bool.{cond_both}
 use Rattle.std.proofs.lemmas.Nat.{or_lt, pow_pos}
@@ -7,14 +7,17 @@ use Rattle.std.proofs.Math.Pow.{pow-lt}
 use Rattle.std.proofs.lemmas.Slice.Eq.{bytes_eq-Decides}
 use Rattle.pm_model.specs.Results.{and_then}
 use Rattle.pm_model.specs.State.{Graph, is_named, is_numbered, element_at, number_named}
-use Rattle.pm_model.specs.Resolve.{unused, known, look_up, look_up_both, look_up_all, look_up_rights, look_up_process, look_up_subject, prohibition, resolve}
+use Rattle.pm_model.specs.Resolve.{unused, known, look_up, look_up_both, look_up_all, look_up_rights, look_up_process, look_up_subject, prohibition, look_up_if, look_up_operation, look_up_when, obligation, resolve}
+use Rattle.pm_model.specs.Obligations as obliged
 use Rattle.pm_model.specs.RightSet.{bit_named, with_right}
 use Rattle.pm_model.specs.Sessions.{is_process, process_at}
 use Rattle.pm_model.specs.Prohibitions.{is_called, place_called}
 use Rattle.pm_model.specs.Effect.{effect}
-use Rattle.pm_model.specs.Formed.{Each, IsWellFormed, IsNamed, IsLive, AreNamed, IsSubjectLive}
+use Rattle.pm_model.specs.Formed.{Each, IsWellFormed, IsNamed, IsLive, IsUser, AreNamed, IsSubjectLive}
 use Rattle.pm_model.specs.declared.elements.Kind.TheVariants.{Pc}
 use Rattle.pm_model.specs.declared.elements.Element.{Element}
+use Rattle.pm_model.specs.declared.events.Pattern.{Pattern}
+use Rattle.pm_model.specs.declared.events.When.{When}
 use Rattle.pm_model.specs.declared.requests.Command.{Command}
 use Rattle.pm_model.specs.declared.requests.Command.TheVariants as command
 use Rattle.pm_model.specs.declared.requests.Change.{Change}
@@ -36,7 +39,13 @@ pub and_then-ok : {A B E : Type 0} (r : Result A E) (f : A → Result B E) (b : 
 and_then-ok (Ok a) f b h = (a, refl, h)
 and_then-ok (Err e) f b h = absurd (cc)
 
-ok-is : {A E : Type 0} (r : Result A E) (a b : A) → r ≡ Ok a → r ≡ Ok b → a ≡ b
+-- what holds of each outcome of the second step
+pub and_then-if : {A B E : Type 0} (P : B → Type 0) (r : Result A E) (f : A → Result B E) → ((a : A) → r ≡ Ok a → IfOk (f a) P) →
+    IfOk (and_then r f) P
+and_then-if P (Ok a) f each = each a refl
+and_then-if P (Err e) f each = tt
+
+pub ok-is : {A E : Type 0} (r : Result A E) (a b : A) → r ≡ Ok a → r ≡ Ok b → a ≡ b
 ok-is r a b h k = cc
 
 -- ---- a name and its number
@@ -123,35 +132,56 @@ looked_up-subject G (subject.Process p) t h =
     let n = and_then-ok (look_up_process G p) (λ n. Ok (subject.Process n)) t h in
     subst (IsSubjectLive G.elements G.procs) (ok-is _ (subject.Process n.0) t refl n.2) (looked_up-process G p n.0 n.1)
 
+-- ---- patterns
+
+looked_up-if : (G : Graph) (name : Option (List ℕ)) (o : Option ℕ) → look_up_if G name ≡ Ok o → IfSome o (IsLive G.elements)
+looked_up-if G None o h = subst (λ (o : Option ℕ). IfSome o (IsLive G.elements)) (ok-is (look_up_if G None) None o refl h) tt
+looked_up-if G (Some name) o h =
+    let n = and_then-ok (look_up G name) (λ n. Ok (Some n)) o h in
+    subst (λ (o : Option ℕ). IfSome o (IsLive G.elements)) (ok-is _ (Some n.0) o refl n.2) (looked_up-live G name n.0 n.1)
+
+looked_up-when : (G : Graph) (when : When) (p : Pattern) → look_up_when G when ≡ Ok p →
+    IfSome p.user (IsLive G.elements) × IfSome p.target (IsLive G.elements)
+looked_up-when G when p h =
+    let on = and_then-ok (look_up_operation G when.on) (λ on. and_then (look_up_if G when.user) (λ user.
+    and_then (look_up_if G when.target) (λ target. Ok (pattern on user target)))) p h in
+    let user = and_then-ok (look_up_if G when.user) (λ user. and_then (look_up_if G when.target) (λ target. Ok (pattern on.0 user target))) p on.2 in
+    let target = and_then-ok (look_up_if G when.target) (λ target. Ok (pattern on.0 user.0 target)) p user.2 in
+    subst (λ (q : Pattern). IfSome q.user (IsLive G.elements) × IfSome q.target (IsLive G.elements))
+    (ok-is _ (pattern on.0 user.0 target.0) p refl target.2)
+    (looked_up-if G when.user user.0 user.1, looked_up-if G when.target target.0 target.1) where
+      pattern : List ℕ → Option ℕ → Option ℕ → Pattern
+      pattern on user target = record { on = on; user = user; target = target }
+
 -- ---- commands
 
 pub named-as : (G : Graph) (c d : Change) → ◌≡◌ {A = Result Change Refusal} (Ok c) (Ok d) → IsNamed G c → IsNamed G d
 named-as G c d h n = subst (IsNamed G) (ok-is (Ok c) c d refl h) n
 
-pub resolve-named : (G : Graph) (c : Command) (d : Change) → resolve G c ≡ Ok d → IsNamed G d
-resolve-named G (command.CreatePc name) d h = named-as G (change.Create (unused G.elements) Pc name None) d h (refl, refl)
-resolve-named G (command.Create kind name into) d h =
+pub resolve-named : (G : Graph) (u : ℕ) (c : Command) (d : Change) → IsUser G.elements u → resolve G u c ≡ Ok d → IsNamed G d
+resolve-named G u (command.CreatePc name) d user h = named-as G (change.Create (unused G.elements) Pc name None) d h (refl, refl)
+resolve-named G u (command.Create kind name into) d user h =
     let p = and_then-ok (look_up G into) (λ c. Ok (change.Create (unused G.elements) kind name (Some c))) d h in
     named-as G (change.Create (unused G.elements) kind name (Some p.0)) d p.2 (refl, looked_up-live G into p.0 p.1)
-resolve-named G (command.Delete name) d h =
+resolve-named G u (command.Delete name) d user h =
     let n = and_then-ok (look_up G name) (λ n. Ok (change.Delete n)) d h in
     named-as G (change.Delete n.0) d n.2 (looked_up-live G name n.0 n.1)
-resolve-named G (command.Assign from to) d h =
+resolve-named G u (command.Assign from to) d user h =
     let p = and_then-ok (look_up_both G from to) (λ p. Ok (change.Assign p.0 p.1)) d h in
     named-as G (change.Assign p.0.0 p.0.1) d p.2 (both_looked_up-live G from to p.0 p.1)
-resolve-named G (command.Deassign from to) d h =
+resolve-named G u (command.Deassign from to) d user h =
     let p = and_then-ok (look_up_both G from to) (λ p. Ok (change.Deassign p.0 p.1)) d h in
     named-as G (change.Deassign p.0.0 p.0.1) d p.2 (both_looked_up-live G from to p.0 p.1)
-resolve-named G (command.Associate ua rights at) d h =
-    let u = and_then-ok (look_up G ua) (λ u. and_then (look_up_rights G rights) (λ r. and_then (look_up G at) (λ t. Ok (change.Associate u r t)))) d h in
-    let r = and_then-ok (look_up_rights G rights) (λ r. and_then (look_up G at) (λ t. Ok (change.Associate u.0 r t))) d u.2 in
-    let t = and_then-ok (look_up G at) (λ t. Ok (change.Associate u.0 r.0 t)) d r.2 in
-    named-as G (change.Associate u.0 r.0 t.0) d t.2
-    (looked_up-live G ua u.0 u.1, looked_up-live G at t.0 t.1, looked_up-rights G rights r.0 r.1)
-resolve-named G (command.Dissociate ua at) d h =
+resolve-named G u (command.Associate ua rights at) d user h =
+    let a = and_then-ok (look_up G ua) (λ a. and_then (look_up_rights G rights) (λ r. and_then (look_up G at) (λ t. Ok (change.Associate a r t)))) d h in
+    let r = and_then-ok (look_up_rights G rights) (λ r. and_then (look_up G at) (λ t. Ok (change.Associate a.0 r t))) d a.2 in
+    let t = and_then-ok (look_up G at) (λ t. Ok (change.Associate a.0 r.0 t)) d r.2 in
+    named-as G (change.Associate a.0 r.0 t.0) d t.2
+    (looked_up-live G ua a.0 a.1, looked_up-live G at t.0 t.1, looked_up-rights G rights r.0 r.1)
+resolve-named G u (command.Dissociate ua at) d user h =
     let p = and_then-ok (look_up_both G ua at) (λ p. Ok (change.Dissociate p.0 p.1)) d h in
     named-as G (change.Dissociate p.0.0 p.0.1) d p.2 (both_looked_up-live G ua at p.0 p.1)
-resolve-named G (command.Prohibit name s rights inc exc mode) d h =
+resolve-named G u (command.Prohibit name s rights inc exc mode) d user h =
     let t = and_then-ok (look_up_subject G s) (λ t. and_then (look_up_rights G rights) (λ r. and_then (look_up_all G inc) (λ i.
     and_then (look_up_all G exc) (λ e. Ok (change.Prohibit (prohibition name t r i e mode)))))) d h in
     let r = and_then-ok (look_up_rights G rights) (λ r. and_then (look_up_all G inc) (λ i. and_then (look_up_all G exc) (λ e.
@@ -160,15 +190,23 @@ resolve-named G (command.Prohibit name s rights inc exc mode) d h =
     let e = and_then-ok (look_up_all G exc) (λ e. Ok (change.Prohibit (prohibition name t.0 r.0 i.0 e mode))) d i.2 in
     named-as G (change.Prohibit (prohibition name t.0 r.0 i.0 e.0 mode)) d e.2
     (looked_up-subject G s t.0 t.1, all_looked_up-live G inc i.0 i.1, all_looked_up-live G exc e.0 e.1, looked_up-rights G rights r.0 r.1)
-resolve-named G (command.Lift name) d h =
+resolve-named G u (command.Lift name) d user h =
     let i = and_then-ok (known name (place_called G.prohibitions name)) (λ i. Ok (change.Lift i)) d h in
     named-as G (change.Lift i.0) d i.2 (known-below (is_called name) G.prohibitions name i.0 i.1)
-resolve-named G (command.DefineRight name) d h = named-as G (change.DefineRight name) d h tt
+resolve-named G u (command.DefineRight name) d user h = named-as G (change.DefineRight name) d h tt
+resolve-named G u (command.Oblige name when response) d user h =
+    let p = and_then-ok (look_up_when G when) (λ pattern. Ok (change.Oblige (obligation name u pattern response))) d h in
+    let live = looked_up-when G when p.0 p.1 in
+    named-as G (change.Oblige (obligation name u p.0 response)) d p.2 (user, live.0, live.1)
+resolve-named G u (command.Withdraw name) d user h =
+    let i = and_then-ok (known name (obliged.place_called G.obligations name)) (λ i. Ok (change.Withdraw i)) d h in
+    named-as G (change.Withdraw i.0) d i.2 (known-below (obliged.is_called name) G.obligations name i.0 i.1)
 
 -- what a command makes of a well formed graph is well formed
-pub formed-administered : (G H : Graph) (c : Command) → IsWellFormed G → and_then (resolve G c) (effect G) ≡ Ok H → IsWellFormed H
-formed-administered G H c f h =
-    let p = and_then-ok (resolve G c) (effect G) H h in formed-effect G H p.0 f (resolve-named G c p.0 p.1) p.2
+pub formed-administered : (G H : Graph) (u : ℕ) (c : Command) → IsWellFormed G → IsUser G.elements u →
+    and_then (resolve G u c) (effect G) ≡ Ok H → IsWellFormed H
+formed-administered G H u c f user h =
+    let p = and_then-ok (resolve G u c) (effect G) H h in formed-effect G H p.0 f (resolve-named G u c p.0 user p.1) p.2
 
 -- a name finds a number exactly where the element of that number has the name
 pub number_of_name : (G : Graph) (name : List ℕ) (n : ℕ) → IsWellFormed G →

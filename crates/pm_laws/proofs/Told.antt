@@ -8,10 +8,13 @@ use Rattle.pm_model.specs.State.{Graph, number_named}
 use Rattle.pm_model.specs.RightSet.{bit_named, with_right}
 use Rattle.pm_model.specs.Sessions.{is_process}
 use Rattle.pm_model.specs.Prohibitions.{place_called}
-use Rattle.pm_model.specs.Resolve.{unused, known, look_up, look_up_both, look_up_all, look_up_rights, look_up_process, look_up_subject, prohibition, resolve}
+use Rattle.pm_model.specs.Resolve.{unused, known, look_up, look_up_both, look_up_all, look_up_rights, look_up_process, look_up_subject, prohibition, look_up_if, look_up_operation, look_up_when, obligation, resolve}
+use Rattle.pm_model.specs.Obligations as obliged
+use Rattle.pm_model.specs.Operations.{is_operation}
 use Rattle.pm_model.specs.Effect.{checks, refusal, changed, effect}
 use Rattle.pm_model.specs.Nameable.{IsRefusalNameable}
 use Rattle.pm_model.specs.Formed.{Each}
+use Rattle.pm_model.specs.declared.events.When.{When}
 use Rattle.pm_model.specs.declared.requests.Command.{Command}
 use Rattle.pm_model.specs.declared.requests.Command.TheVariants as command
 use Rattle.pm_model.specs.declared.requests.Change.{Change}
@@ -19,7 +22,7 @@ use Rattle.pm_model.specs.declared.requests.Change.TheVariants as change
 use Rattle.pm_model.specs.declared.prohibitions.Subject.{Subject}
 use Rattle.pm_model.specs.declared.prohibitions.Subject.TheVariants as subject
 use Rattle.pm_model.specs.declared.replies.Refusal.{Refusal}
-use Rattle.pm_model.specs.declared.replies.Refusal.TheVariants.{UnknownProcess}
+use Rattle.pm_model.specs.declared.replies.Refusal.TheVariants.{UnknownProcess, UnknownName}
 
 -- ---- steps in order
 
@@ -87,31 +90,50 @@ module _ (named : ℕ → Bool) where
   subject-told G (subject.Ua name) = then-told (look_up G name) (λ n. Ok (subject.Ua n)) (look_up-told G name) (λ n. tt)
   subject-told G (subject.Process p) = then-told (look_up_process G p) (λ n. Ok (subject.Process n)) (process-told G p) (λ n. tt)
 
-  pub resolve-told : (G : Graph) (c : Command) → IsTold (resolve G c)
-  resolve-told G (command.CreatePc name) = tt
-  resolve-told G (command.Create kind name into) =
+  if-told : (G : Graph) (name : Option (List ℕ)) → IsTold (look_up_if G name)
+  if-told G None = tt
+  if-told G (Some name) = then-told (look_up G name) (λ n. Ok (Some n)) (look_up-told G name) (λ n. tt)
+
+  operation-told : (G : Graph) (name : List ℕ) → IsTold (look_up_operation G name)
+  operation-told G name =
+      cond_both (is_operation G.rights name) (Ok name) (Err (UnknownName name)) (λ (r : Result (List ℕ) Refusal). IsTold r) (λ is. tt) (λ is. tt)
+
+  when-told : (G : Graph) (when : When) → IsTold (look_up_when G when)
+  when-told G when =
+      then-told (look_up_operation G when.on) _ (operation-told G when.on)
+      (λ on. then-told (look_up_if G when.user) _ (if-told G when.user)
+      (λ user. then-told (look_up_if G when.target) _ (if-told G when.target) (λ target. tt)))
+
+  pub resolve-told : (G : Graph) (u : ℕ) (c : Command) → IsTold (resolve G u c)
+  resolve-told G u (command.CreatePc name) = tt
+  resolve-told G u (command.Create kind name into) =
       then-told (look_up G into) (λ c. Ok (change.Create (unused G.elements) kind name (Some c))) (look_up-told G into) (λ c. tt)
-  resolve-told G (command.Delete name) = then-told (look_up G name) (λ n. Ok (change.Delete n)) (look_up-told G name) (λ n. tt)
-  resolve-told G (command.Assign from to) =
+  resolve-told G u (command.Delete name) = then-told (look_up G name) (λ n. Ok (change.Delete n)) (look_up-told G name) (λ n. tt)
+  resolve-told G u (command.Assign from to) =
       then-told (look_up_both G from to) (λ p. Ok (change.Assign p.0 p.1)) (both-told G from to) (λ p. tt)
-  resolve-told G (command.Deassign from to) =
+  resolve-told G u (command.Deassign from to) =
       then-told (look_up_both G from to) (λ p. Ok (change.Deassign p.0 p.1)) (both-told G from to) (λ p. tt)
-  resolve-told G (command.Associate ua rights at) =
-      then-told (look_up G ua) (λ u. and_then (look_up_rights G rights) (λ r. and_then (look_up G at) (λ t. Ok (change.Associate u r t)))) (look_up-told G ua)
-      (λ u. then-told (look_up_rights G rights) (λ r. and_then (look_up G at) (λ t. Ok (change.Associate u r t))) (rights-told G rights)
-      (λ r. then-told (look_up G at) (λ t. Ok (change.Associate u r t)) (look_up-told G at) (λ t. tt)))
-  resolve-told G (command.Dissociate ua at) =
+  resolve-told G u (command.Associate ua rights at) =
+      then-told (look_up G ua) (λ a. and_then (look_up_rights G rights) (λ r. and_then (look_up G at) (λ t. Ok (change.Associate a r t)))) (look_up-told G ua)
+      (λ a. then-told (look_up_rights G rights) (λ r. and_then (look_up G at) (λ t. Ok (change.Associate a r t))) (rights-told G rights)
+      (λ r. then-told (look_up G at) (λ t. Ok (change.Associate a r t)) (look_up-told G at) (λ t. tt)))
+  resolve-told G u (command.Dissociate ua at) =
       then-told (look_up_both G ua at) (λ p. Ok (change.Dissociate p.0 p.1)) (both-told G ua at) (λ p. tt)
-  resolve-told G (command.Prohibit name s rights inc exc mode) =
+  resolve-told G u (command.Prohibit name s rights inc exc mode) =
       then-told (look_up_subject G s) (λ t. and_then (look_up_rights G rights) (λ r. and_then (look_up_all G inc) (λ i.
       and_then (look_up_all G exc) (λ e. Ok (change.Prohibit (prohibition name t r i e mode)))))) (subject-told G s)
       (λ t. then-told (look_up_rights G rights) (λ r. and_then (look_up_all G inc) (λ i. and_then (look_up_all G exc) (λ e.
       Ok (change.Prohibit (prohibition name t r i e mode))))) (rights-told G rights)
       (λ r. then-told (look_up_all G inc) (λ i. and_then (look_up_all G exc) (λ e. Ok (change.Prohibit (prohibition name t r i e mode)))) (all-told G inc)
       (λ i. then-told (look_up_all G exc) (λ e. Ok (change.Prohibit (prohibition name t r i e mode))) (all-told G exc) (λ e. tt))))
-  resolve-told G (command.Lift name) =
+  resolve-told G u (command.Lift name) =
       then-told (known name (place_called G.prohibitions name)) (λ i. Ok (change.Lift i)) (known-told name (place_called G.prohibitions name)) (λ i. tt)
-  resolve-told G (command.DefineRight name) = tt
+  resolve-told G u (command.DefineRight name) = tt
+  resolve-told G u (command.Oblige name when response) =
+      then-told (look_up_when G when) (λ pattern. Ok (change.Oblige (obligation name u pattern response))) (when-told G when) (λ pattern. tt)
+  resolve-told G u (command.Withdraw name) =
+      then-told (known name (obliged.place_called G.obligations name)) (λ i. Ok (change.Withdraw i))
+      (known-told name (obliged.place_called G.obligations name)) (λ i. tt)
 
   -- ---- preconditions
 

@@ -14,6 +14,7 @@ use Rattle.pm_model.specs.declared.rights.Association.{Association}
 use Rattle.pm_model.specs.declared.prohibitions.Prohibition.{Prohibition}
 use Rattle.pm_model.specs.declared.prohibitions.Mode.TheVariants.{All}
 use Rattle.pm_model.specs.declared.prohibitions.Subject.TheVariants as subject
+use Rattle.pm_model.specs.declared.events.When.{When}
 use Rattle.pm_model.specs.declared.obligations.Obligation.{Obligation}
 use Rattle.pm_model.specs.declared.actions.Term.TheVariants.{EventTarget}
 use Rattle.pm_model.specs.declared.actions.Act.TheVariants as act
@@ -209,15 +210,20 @@ in_use =
 -- ---- a delegate
 
 -- two wards in a class; ann heads the first, where she may create users. A prohibition denies it to her process 2, and one
--- denies it to root on the second ward.
+-- denies it to root on the second ward. Root's obligation waits for all that is read.
 abbrev pub wards : Graph
 wards = record (opening_with (element 3 Pc (codes "wards") ∷ element 4 Ua (codes "east") ∷ element 5 Ua (codes "west")
     ∷ element 6 Ua (codes "heads") ∷ element 7 User (codes "ann") ∷ []) ((4, 3) ∷ (5, 3) ∷ (6, 3) ∷ (7, 6) ∷ [])) {
       associations = record { ua = 6; rights = 4; at = 4 } ∷ [];
       prohibitions = prohibition (codes "hold") (subject.Process 2) 4 (4 ∷ []) [] All
           ∷ prohibition (codes "lock") (subject.User 2) 4 (5 ∷ []) [] All ∷ [];
+      obligations = log ∷ [];
       procs = procs (session 0 2 ∷ session 1 7 ∷ []) (process 0 0 ∷ process 1 1 ∷ process 2 1 ∷ []) 2 3;
     }
+
+-- all that the heads read of the first ward
+abbrev pub read_by_heads : When
+read_by_heads = record { on = codes "read"; user = Some (codes "heads"); target = Some (codes "east") }
 
 -- a user, a process and a command, and the ruling
 abbrev pub ruled : List (ℕ × Option ℕ × Command × Result Change Refusal)
@@ -230,6 +236,9 @@ ruled =
     ∷ (7, Some 1, command.Delete (codes "west"), Err (Denied (codes "delete") 5 (reason.Class 3)))
     -- a name that isn't found comes before any capability
     ∷ (7, Some 1, command.Delete (codes "north"), Err (UnknownName (codes "north")))
+    -- the user that is waited for comes before the target; for any target the class `pm` is asked
+    ∷ (7, Some 1, command.Oblige (codes "watch") read_by_heads [], Err (Denied (codes "oblige") 6 (reason.Class 3)))
+    ∷ (7, Some 1, command.Withdraw (codes "log"), Err (Denied (codes "oblige") 0 (reason.Class 0)))
     -- root may do all, and no prohibition denies it
     ∷ (2, Some 0, command.Create User (codes "bob") (codes "west"), Ok (Create 8 User (codes "bob") (Some 5)))
     ∷ (2, Some 0, command.Delete (codes "west"), Ok (Delete 5)) ∷ []

@@ -1,7 +1,7 @@
 -- What the definitions come to, in the standard's words: assignments join elements of certain kinds and order them, each
--- element leads to a policy class, and each process acts for one user. What is said of names and of numbers is the
--- project's own.
-use Rattle.std.specs.Prelude.{◌≡◌, ◌≤◌, ◌<◌, ◌+◌, ◌⊎◌, ℕ, List, length, take, slice_get, Contains, Some, true}
+-- element leads to a policy class, each process acts for one user, and an obligation's pattern says which events it
+-- matches. What is said of names and of numbers is the project's own.
+use Rattle.std.specs.Prelude.{◌≡◌, ◌≤◌, ◌<◌, ◌+◌, ◌⊎◌, ℕ, List, length, take, slice_get, Contains, Some, IfSome, true}
 use Rattle.pm_model.specs.State.{State, Graph, element_at}
 use Rattle.pm_model.specs.Containment.{IsContained}
 use Rattle.pm_model.specs.Effect.{may_assign}
@@ -10,6 +10,8 @@ use Rattle.pm_model.specs.History.{replay}
 use Rattle.pm_model.specs.Formed.{IsUser, IsWellFormed}
 use Rattle.pm_model.specs.declared.elements.Kind.TheVariants.{Pc}
 use Rattle.pm_model.specs.declared.elements.Element.{Element}
+use Rattle.pm_model.specs.declared.events.Event.{Event}
+use Rattle.pm_model.specs.declared.events.Pattern.{Pattern}
 use Rattle.pm_model.specs.declared.requests.Entry.{Entry}
 use Rattle.pm_model.specs.declared.replies.Reply.{Reply}
 use Rattle.pm_model.specs.declared.replies.Reply.TheVariants.{Done}
@@ -70,6 +72,17 @@ GiveNext G H =
     GivesNext (λ (s : Session). s.number) G.procs.sessions H.procs.sessions G.procs.next_session H.procs.next_session
     × GivesNext (λ (p : Process). p.number) G.procs.processes H.procs.processes G.procs.next_process H.procs.next_process
 
+-- ---- obligations
+
+-- what is done is the pattern's operation; where the pattern gives a user, the event's user is contained in it, and where it
+-- gives a target, the event's target
+pub record IsMatched (G : Graph) (pattern : Pattern) (event : Event) : Type 0 where
+  pub operation : event.operation ≡ pattern.on
+  pub user : IfSome pattern.user (IsContained G.assigned event.user)
+  pub target : IfSome pattern.target (IsContained G.assigned event.target)
+
+-- ---- histories
+
 -- the version bounds the numbers given to sessions and to processes, behind those of the opening
 pub record AreGivenBy (S : State) : Type 0 where
   pub sessions : S.graph.procs.next_session ≤ S.version + 1
@@ -90,7 +103,7 @@ IsRepliedAt H i reply = (e : Entry) × (slice_get H i ≡ Some e) × ((answer (r
 
 -- of two replies that tell a number, the later tells the higher one
 abbrev pub Rise : (ℕ → Shown) → List Entry → Type 0
-Rise tells H = (i j m n : ℕ) → i < j → IsRepliedAt H i (Done (tells m)) → IsRepliedAt H j (Done (tells n)) → m < n
+Rise tells H = (i j a b m n : ℕ) → i < j → IsRepliedAt H i (Done a (tells m)) → IsRepliedAt H j (Done b (tells n)) → m < n
 
 -- so none is told twice, of a session or of a process
 pub record TellsOnce (H : List Entry) : Type 0 where

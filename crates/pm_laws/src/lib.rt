@@ -10,7 +10,9 @@ ghost use Rattle.pm_model.specs.Decision.{privilege, forbids};
 ghost use Rattle.pm_model.specs.Results.{and_then};
 ghost use Rattle.pm_model.specs.Effect.{changed, effect};
 ghost use Rattle.pm_model.specs.Resolve.{resolve};
-ghost use Rattle.pm_model.specs.Answer.{answer, after};
+ghost use Rattle.pm_model.specs.Answer.{answer, after, told, entered, granted};
+ghost use Rattle.pm_model.specs.Events.{obliging, responders};
+ghost use Rattle.pm_model.specs.Responses.{all_hold, fresh_name, bound, acted, responses};
 ghost use Rattle.pm_model.specs.History.{IsLegal, replay};
 ghost use Rattle.pm_model.specs.Lines.{events};
 ghost use Rattle.pm_model.specs.Recorded.{history_after, recorded_solo};
@@ -21,16 +23,21 @@ ghost use Rattle.pm_model.specs.Nameable.{IsNameable};
 ghost use Rattle.pm_model.specs.Formed.{Each, IsLive, IsUser, HasNext, IsWellFormed, IsNamed};
 ghost use Rattle.pm_model.specs.declared.elements.Element.{Element};
 ghost use Rattle.pm_model.specs.declared.obligations.Obligation.{Obligation};
+ghost use Rattle.pm_model.specs.declared.obligations.Place.{Place};
+ghost use Rattle.pm_model.specs.declared.actions.Action.{Action};
+ghost use Rattle.pm_model.specs.declared.events.Event.{Event};
+ghost use Rattle.pm_model.specs.declared.events.EventNames.{EventNames};
 ghost use Rattle.pm_model.specs.declared.requests.Change.{Change};
 ghost use Rattle.pm_model.specs.declared.requests.Change.TheVariants.{CloseSession, Delete};
 ghost use Rattle.pm_model.specs.declared.replies.Refusal.TheVariants.{InUse};
+ghost use Rattle.pm_model.specs.declared.replies.Reply.TheVariants.{Granted};
 ghost use Rattle.pm_model.specs.declared.requests.Command.{Command};
 ghost use Rattle.pm_model.specs.declared.requests.Entry.{Entry};
 ghost use Rattle.pm_model.specs.declared.requests.Request.{Request};
 ghost use Rattle.pm_model.specs.declared.sessions.Session.{Session};
 ghost use Rattle.pm_model.specs.declared.sessions.Process.{Process};
 ghost use Rattle.pm_laws.specs.Examples.{staffed, held, made, refused, refused_at_work, refused_at_watch, watching, watch, in_use, wards, ruled, unformed};
-ghost use Rattle.pm_laws.specs.Meaning.{IsJoined, IsPartialOrder, IsInClass, IsNumberOf, ActsFor, ActsForOne, IsGone, GiveNext, IsReached, TellsOnce};
+ghost use Rattle.pm_laws.specs.Meaning.{IsMatched, IsJoined, IsPartialOrder, IsInClass, IsNumberOf, ActsFor, ActsForOne, IsGone, GiveNext, IsReached, TellsOnce};
 
 /// What a change makes of a well formed graph is well formed.
 pub fn formed_effect()
@@ -42,15 +49,15 @@ pub fn formed_opening()
     ensures { IsWellFormed opening.graph }
 {}
 
-/// What a command's names resolve to is live, and what it is to make has the next number.
+/// What a user's command names is live, once its names are found, and what it is to make has the next number.
 pub fn resolve_named()
-    ensures { (G : Graph) (c : Command) (d : Change) → resolve G c ≡ Ok d → IsNamed G d }
+    ensures { (G : Graph) (u : ℕ) (c : Command) (d : Change) → IsUser G.elements u → resolve G u c ≡ Ok d → IsNamed G d }
 {}
 
-/// A command on a well formed graph, once its names are found and none of its preconditions refuses
-/// it, gives a well formed graph.
+/// A user's command on a well formed graph, once its names are found and none of its preconditions
+/// refuses it, gives a well formed graph.
 pub fn formed_administered()
-    ensures { (G H : Graph) (c : Command) → IsWellFormed G → and_then (resolve G c) (effect G) ≡ Ok H → IsWellFormed H }
+    ensures { (G H : Graph) (u : ℕ) (c : Command) → IsWellFormed G → IsUser G.elements u → and_then (resolve G u c) (effect G) ≡ Ok H → IsWellFormed H }
 {}
 
 /// The state after an answer is well formed, whatever the request, where there are numbers left for a
@@ -143,24 +150,24 @@ pub fn allowed_exactly()
 /// change asks for is allowed to the user and the process.
 #[tactic(auto, using(crate::proofs::Authority::ruled_exactly))]
 pub fn ruled_exactly()
-    ensures { (G : Graph) (u : ℕ) (q : Option ℕ) (c : Command) (d : Change) → (ruling G u q c ≡ Ok d) ↔ ((resolve G c ≡ Ok d) × Each (λ (c : ℕ × ℕ). denial_in G u q c.0 c.1 ≡ None) (required G d)) }
+    ensures { (G : Graph) (u : ℕ) (q : Option ℕ) (c : Command) (d : Change) → (ruling G u q c ≡ Ok d) ↔ ((resolve G u c ≡ Ok d) × Each (λ (c : ℕ × ℕ). denial_in G u q c.0 c.1 ≡ None) (required G d)) }
 {}
 
-/// What a command that is allowed names is live, and what it is to make has the next number.
+/// What a command that is allowed to a user names is live, and what it is to make has the next number.
 pub fn ruling_named()
-    ensures { (G : Graph) (u : ℕ) (q : Option ℕ) (c : Command) (d : Change) → ruling G u q c ≡ Ok d → IsNamed G d }
+    ensures { (G : Graph) (u : ℕ) (q : Option ℕ) (c : Command) (d : Change) → IsUser G.elements u → ruling G u q c ≡ Ok d → IsNamed G d }
 {}
 
 /// The root user is denied no command whose names are found.
 #[tactic(auto, using(crate::proofs::Authority::root_may_all))]
 pub fn root_may_all()
-    ensures { (G : Graph) (q : Option ℕ) (c : Command) (d : Change) → resolve G c ≡ Ok d → ruling G root q c ≡ Ok d }
+    ensures { (G : Graph) (q : Option ℕ) (c : Command) (d : Change) → resolve G root c ≡ Ok d → ruling G root q c ≡ Ok d }
 {}
 
 /// Each command asks for at least one capability.
 #[tactic(auto, using(crate::proofs::Asking::command_asks))]
 pub fn command_asks()
-    ensures { (G : Graph) (c : Command) (d : Change) → resolve G c ≡ Ok d → 0 < length (required G d) }
+    ensures { (G : Graph) (u : ℕ) (c : Command) (d : Change) → resolve G u c ≡ Ok d → 0 < length (required G d) }
 {}
 
 /// Each element on which a change asks for a right is live.
@@ -179,6 +186,32 @@ pub fn required_rights()
 #[tactic(auto, using(crate::proofs::Granted::granted_exactly))]
 pub fn granted_exactly()
     ensures { (G : Graph) (u q r e : ℕ) → is_access_right r ≡ true → (denial_in G u (Some q) r e ≡ None) ↔ ((privilege (contained G.assigned) G.associations (classes_in G.elements) u r e ≡ true) × (list_any (forbids (contained G.assigned) u (Some q) r e) G.prohibitions ≡ false)) }
+{}
+
+/// An obligation responds to an event exactly where it may respond and its pattern matches: in the
+/// operation, in the user and in the target.
+pub fn responders_match()
+    ensures { (G : Graph) (obligations : List Obligation) (e : Event) (o : Obligation) → Contains (responders G obligations (Some e)) o ↔ (Contains obligations o × IsMatched G o.pattern e) }
+{}
+
+/// An action whose guards hold is done exactly where its command is allowed to the author with no
+/// process, and takes its effect.
+pub fn responses_by_author()
+    ensures { (names : EventNames) (version : ℕ) (G H : Graph) (author : ℕ) (place : Place) (a : Action) → all_hold G names (fresh_name place version) a.guards ≡ Ok true → (acted names version G author place a ≡ Ok H) ↔ ((d : Change) × (ruling G author None (bound names place version a.act) ≡ Ok d) × (effect G d ≡ Ok H)) }
+{}
+
+/// Where no obligation responds, a change is entered as if it raised no event, and an access is granted
+/// with no entry.
+#[tactic(auto, using(crate::proofs::Bodies::nothing_responds_to_change, crate::proofs::Bodies::nothing_responds_to_access))]
+pub fn nothing_responds()
+    ensures changed { (S : State) (e : Option Event) (c : Change) → responders S.graph (obliging S.graph c) e ≡ [] → entered S e c ≡ entered S None c }
+    ensures granted { (S : State) (e : Event) → responders S.graph S.graph.obligations (Some e) ≡ [] → granted S e ≡ told (Granted 0) }
+{}
+
+/// Responses neither oblige nor withdraw.
+#[tactic(auto, using(crate::proofs::Responding::responses_keep_obligations))]
+pub fn responses_keep_obligations()
+    ensures { (names : EventNames) (version : ℕ) (G H : Graph) (obligations : List Obligation) → responses names version G obligations ≡ Ok H → H.obligations ≡ G.obligations }
 {}
 
 /// Changes of small graphs, and what they make.
