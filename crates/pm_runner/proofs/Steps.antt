@@ -1,6 +1,6 @@
 -- Responses, an action and an obligation at a time.
-use Rattle.std.proofs.Common.{◌≡◌, ℕ, ◌+◌, ◌-◌, ◌<◌, ◌≤◌, List, [], ◌∷◌, ◌++◌, length, take, drop, Some, slice_get, Result, Ok, Err, refl, sym, ◌∙◌, ap, arith}
-use Rattle.std.proofs.lemmas.Option.{slice_get_within}
+use Rattle.std.proofs.Common.{◌≡◌, ℕ, ◌+◌, ◌-◌, ◌<◌, ◌≤◌, List, [], ◌∷◌, ◌++◌, length, take, drop, Option, None, Some, option_map, slice_get, Result, Ok, Err, refl, sym, ◌∙◌, ap, subst, arith}
+use Rattle.std.proofs.lemmas.Option.{slice_get_within, same_Some}
 use Rattle.std.proofs.lemmas.List.{take-append-drop, length-take-le}
 use Rattle.pm_model.proofs.Walks.{drop-item}
 use Rattle.pm_model.specs.Results.{and_then}
@@ -10,7 +10,8 @@ use Rattle.pm_model.specs.declared.events.EventNames.{EventNames}
 use Rattle.pm_model.specs.declared.actions.Action.{Action}
 use Rattle.pm_model.specs.declared.obligations.Obligation.{Obligation}
 use Rattle.pm_model.specs.declared.obligations.Place.{Place}
-use Rattle.pm_runner.specs.Turns.{Occasion, responded, responded_by, obliged, standing, acted_or_stopped, IsTurn, IsDue}
+use Rattle.pm_model.specs.declared.replies.Refusal.{Refusal}
+use Rattle.pm_runner.specs.Turns.{Occasion, responded, responded_by, obliged, standing, acted_at, acted_or_stopped, IsTurn, IsDue}
 use Rattle.pm_runner.specs.Outcomes.{IsStop}
 use Rattle.pm_runner.specs.declared.errors.RunError.{RunError}
 use Rattle.pm_runner.specs.declared.errors.RunError.TheVariants as run
@@ -111,6 +112,105 @@ act-turn occasion o index i start G below due made =
       start = due.start;
       made = rw (first, second, due.made) made;
     }
+
+-- with other actions behind it, an obligation's response does the same
+stopped-same : (names : EventNames) (version : ℕ) (o : Obligation) (others : List Action) (number : ℕ) (whole part : Graph → Result Graph Stopped) →
+    ((G : Graph) → whole G ≡ part G) → (step : Result Graph Refusal) →
+    and_then (or_stopped names version (record o { response = others }) number step) whole ≡ and_then (or_stopped names version o number step) part
+stopped-same names version o others number whole part same (Ok G) = same G
+stopped-same names version o others number whole part same (Err why) = refl
+
+response-same : (names : EventNames) (version : ℕ) (o : Obligation) (others : List Action) (place number : ℕ) (G : Graph) (actions : List Action) →
+    response_from names version (record o { response = others }) place number G actions ≡ response_from names version o place number G actions
+response-same names version o others place number G [] = refl
+response-same names version o others place number G (a ∷ actions) =
+    stopped-same names version o others number _ _ (λ next. response-same names version o others place (number + 1) next actions)
+    (acted names version G o.author (record { obligation = place; action = number }) a)
+
+and_then-itself : (r : Result Graph Stopped) → and_then r (λ G. Ok G) ≡ r
+and_then-itself (Ok G) = refl
+and_then-itself (Err e) = refl
+
+and_then-same : (r : Result Graph Stopped) (f g : Graph → Result Graph Stopped) → ((G : Graph) → f G ≡ g G) → and_then r f ≡ and_then r g
+and_then-same (Ok G) f g same = same G
+and_then-same (Err e) f g same = refl
+
+-- the obligations before, and this one with some of its actions
+begun : (occasion : Occasion) (xs : List Obligation) (o : Obligation) (actions : List Action) (place : ℕ) (start : Graph) → place ≡ length xs + 1 →
+    responded_by occasion start (xs ++ record o { response = actions } ∷ [])
+    ≡ and_then (responded_by occasion start xs) (λ between. obliged occasion o place between actions)
+begun occasion xs o actions place start e =
+    responses-append occasion.names occasion.version xs (record o { response = actions } ∷ []) 1 place start (omega arith)
+    ∙ and_then-same (responded_by occasion start xs) _ _
+    (λ between. and_then-itself (response_from occasion.names occasion.version (record o { response = actions }) place 1 between actions)
+    ∙ response-same occasion.names occasion.version o actions place 1 between actions)
+
+-- the obligation and the action that stand at a place
+pub standing-parts : (obligations : List Obligation) (place : Place) (o : Obligation) (a : Action) → standing obligations place ≡ Some (o, a) →
+    (slice_get obligations (place.obligation - 1) ≡ Some o) × (slice_get o.response (place.action - 1) ≡ Some a)
+standing-parts obligations place o a stands = of (slice_get obligations (place.obligation - 1)) refl where
+  Parts : Type 0
+  Parts = (slice_get obligations (place.obligation - 1) ≡ Some o) × (slice_get o.response (place.action - 1) ≡ Some a)
+
+  found : (p : Obligation) (b : Option Action) → slice_get obligations (place.obligation - 1) ≡ Some p →
+      slice_get p.response (place.action - 1) ≡ b → option_map {U = Obligation × Action} (λ a. (p, a)) b ≡ Some (o, a) → Parts
+  found p None is asked h = absurd (cc)
+  found p (Some b) is asked h =
+      let pair : (p, b) ≡ (o, a) = same_Some _ _ h in
+      let one : p ≡ o = ap (λ (x : Obligation × Action). x.0) pair in
+      let two : b ≡ a = ap (λ (x : Obligation × Action). x.1) pair in
+      (is ∙ ap Some one, rw one at asked ∙ ap Some two)
+
+  of : (p : Option Obligation) → slice_get obligations (place.obligation - 1) ≡ p → Parts
+  of None is = absurd (let none : None ≡ Some (o, a) = rw is at stands in cc)
+  of (Some p) is = found p (slice_get p.response (place.action - 1)) is refl (rw is at stands)
+
+-- a graph and the one behind it, as what some responses make of one graph
+pub record AreMade (occasion : Occasion) (G H : Graph) : Type 0 where
+  pub start : Graph
+  pub some : List Obligation
+  pub more : List Obligation
+  pub before : responded_by occasion start some ≡ Ok G
+  pub behind : responded_by occasion start more ≡ Ok H
+
+-- where an action is done in its turn
+pub turn-made : (occasion : Occasion) (G H : Graph) (place : Place) → IsTurn occasion G place → acted_at occasion G place ≡ Ok H →
+    AreMade occasion G H
+turn-made occasion G H place turn done = of (responded_by occasion turn.start xs) refl where
+  o : Obligation
+  o = turn.obligation
+
+  xs : List Obligation
+  xs = take (place.obligation - 1) occasion.obligations
+
+  parts : (slice_get occasion.obligations (place.obligation - 1) ≡ Some o) × (slice_get o.response (place.action - 1) ≡ Some turn.action)
+  parts = standing-parts occasion.obligations place o turn.action turn.stands
+
+  counted : place.obligation ≡ length xs + 1
+  counted = let below : place.obligation - 1 < length occasion.obligations = slice_get_within occasion.obligations (place.obligation - 1) o parts.0 in
+      let from = turn.from_one.0 in
+      omega (arith, from, length-take-le (place.obligation - 1) occasion.obligations (omega arith))
+
+  of : (r : Result Graph Stopped) → responded_by occasion turn.start xs ≡ r → AreMade occasion G H
+  of (Err e) is = absurd (let no : Err e ≡ Ok G = rw is at turn.made in cc)
+  of (Ok between) is =
+      let first = turn.from_one.0 in
+      let second = turn.from_one.1 in
+      let index : place.obligation - 1 + 1 ≡ place.obligation = omega (arith, first) in
+      let number : place.action - 1 + 1 ≡ place.action = omega (arith, second) in
+      let at : place_of (place.obligation - 1) (place.action - 1) ≡ place = rw (index, number) refl in
+      let below : place.action - 1 < length o.response = slice_get_within o.response (place.action - 1) turn.action parts.1 in
+      let made : obliged occasion o place.obligation between (take (place.action - 1) o.response) ≡ Ok G = rw is at turn.made in
+      let next : obliged occasion o (place.obligation - 1 + 1) between (take (place.action - 1 + 1) o.response) ≡ Ok H =
+      act-done occasion o (place.obligation - 1) (place.action - 1) between G H below parts.0 (rw index made)
+      (subst (λ (p : Place). acted_or_stopped occasion G p o ≡ Ok H) (sym at) (ap (or_stopped occasion.names occasion.version o place.action) done)) in
+      record {
+        start = turn.start;
+        some = xs ++ record o { response = take (place.action - 1) o.response } ∷ [];
+        more = xs ++ record o { response = take (place.action - 1 + 1) o.response } ∷ [];
+        before = begun occasion xs o (take (place.action - 1) o.response) place.obligation turn.start counted ∙ turn.made;
+        behind = begun occasion xs o (take (place.action - 1 + 1) o.response) place.obligation turn.start counted ∙ rw is (rw index at next);
+      }
 
 -- ---- one obligation
 

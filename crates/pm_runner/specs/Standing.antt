@@ -1,5 +1,6 @@
 -- Items of a list, told by their places.
-use Rattle.std.specs.Prelude.{◌≡◌, ℕ, List, map, Some, All, slice_get}
+use Rattle.std.specs.Prelude.{◌≡◌, ℕ, ◌==◌, Bool, false, List, map, Option, None, Some, All, slice_get}
+use Rattle.std.specs.List.{remove}
 use Rattle.pm_model.specs.Containment.{Relation}
 use Rattle.pm_model.specs.declared.obligations.Obligation.{Obligation}
 use Rattle.pm_pattern.specs.Live.{IsPatternLive}
@@ -11,3 +12,13 @@ StandAt xs places these = map (slice_get xs) places ≡ map Some these
 -- the elements that the patterns give are live
 abbrev pub ArePatternsLive : Relation → List Obligation → Type 0
 ArePatternsLive relation obligations = All (λ (o : Obligation). IsPatternLive relation o.pattern) obligations
+
+-- the place is the one that is left out
+abbrev pub is_at : Option ℕ → ℕ → Bool
+is_at None i = false
+is_at (Some index) i = index == i
+
+-- the items but the one at the place that is left out
+abbrev pub without : {X : Type 0} → Option ℕ → List X → List X
+without None xs = xs
+without (Some index) xs = remove xs index

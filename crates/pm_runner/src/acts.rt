@@ -1,7 +1,8 @@
 //! What a run of responses asks of a machine.
 
-ghost use Rattle.std.specs.Prelude.{◌≡◌, OnOk, IfErr, Ok};
+ghost use Rattle.std.specs.Prelude.{◌≡◌, List, OnOk, IfErr, Ok};
 ghost use Rattle.pm_model.specs.State.{Graph};
+ghost use Rattle.pm_model.specs.declared.requests.Entry.{Entry};
 ghost use Rattle.pm_runner.specs.Turns.{Occasion, IsTurn, acted_at};
 ghost use Rattle.pm_runner.specs.Outcomes.{IsRefusal};
 
@@ -16,6 +17,9 @@ pub trait Acts {
     /// The graph as it is now.
     ghost graph: { Self → Graph };
 
+    /// The history that led to it, which no action makes longer.
+    ghost history: { Self → List Entry };
+
     /// Does the action at the place, whose turn it is, by the authority of its obligation's author; where a guard
     /// fails there is nothing to do. The place counts among the obligations of the occasion. After an error nothing
     /// is said of the graph.
@@ -23,5 +27,6 @@ pub trait Acts {
         requires { IsTurn (occasion self.old) (graph self.old) place }
         ensures ok { OnOk result (acted_at (occasion self.old) (graph self.old) place ≡ Ok (graph self.new)) }
         ensures refused { IfErr result (IsRefusal (acted_at (occasion self.old) (graph self.old) place)) }
-        ensures same { occasion self.new ≡ occasion self.old };
+        ensures same { occasion self.new ≡ occasion self.old }
+        ensures history { history self.new ≡ history self.old };
 }

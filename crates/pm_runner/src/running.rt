@@ -18,6 +18,7 @@ fn act_at<A: Acts>(acts: &mut A, obligation: &Obligation, place: Place) -> Resul
     ensures ok { OnOk result (acted_or_stopped (A.occasion acts.old) (A.graph acts.old) place obligation.now ≡ Ok (A.graph acts.new)) }
     ensures stopped { IfErr result (IsStop (acted_or_stopped (A.occasion acts.old) (A.graph acts.old) place obligation.now)) }
     ensures same { A.occasion acts.new ≡ A.occasion acts.old }
+    ensures history { A.history acts.new ≡ A.history acts.old }
 {
     match acts.act(place) {
         Ok(()) => Ok(()),
@@ -41,6 +42,7 @@ fn run_obligation<A: Acts>(
     ensures ok { OnOk result (obliged (A.occasion acts.old) obligation.now (index + 1) (A.graph acts.old) obligation.now.response ≡ Ok (A.graph acts.new)) }
     ensures stopped { IfErr result (IsStop (obliged (A.occasion acts.old) obligation.now (index + 1) (A.graph acts.old) obligation.now.response)) }
     ensures same { A.occasion acts.new ≡ A.occasion acts.old }
+    ensures history { A.history acts.new ≡ A.history acts.old }
 {
     let actions = obligation.response.actions();
     for i in 0..actions.len() as u32 {
@@ -68,6 +70,7 @@ pub fn run_responses<A: Acts>(
     ensures ok { OnOk result (responded (A.occasion acts.old) (A.graph acts.old) ≡ Ok (A.graph acts.new)) }
     ensures stopped { IfErr result (IsStop (responded (A.occasion acts.old) (A.graph acts.old))) }
     ensures same { A.occasion acts.new ≡ A.occasion acts.old }
+    ensures history { A.history acts.new ≡ A.history acts.old }
 {
     for i in 0..places.len() as u32 {
         let place = *places.at(i as usize);

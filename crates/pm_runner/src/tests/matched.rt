@@ -1,5 +1,5 @@
 use super::*;
-use crate::{any_matches, matching};
+use crate::{any_matches, matching, matching_without};
 
 /// Each element is in itself, and in a tenth of its number: 30 to 39 are in 3.
 #[derive(Drop)]
@@ -86,5 +86,21 @@ fn some_match_in_their_order(rt: HostRuntime) -> Result<(), Fail> {
     assert_eq!(rt; places.as_slice(), [0, 2].as_slice());
     let none = list_of(&rt, &[("a", Some(5), None), ("b", None, Some(3))])?;
     assert!(rt; !any_matches(&none, &event, &mut InTenth));
+    Ok(())
+}
+
+#[test]
+fn one_of_those_that_match_is_left_out(rt: HostRuntime) -> Result<(), Fail> {
+    let event = reading(&rt);
+    let rows = [
+        ("a", None, Some(5)),
+        ("b", Some(5), None),
+        ("c", Some(31), None),
+    ];
+    let list = list_of(&rt, &rows)?;
+    let places = matching_without(rt.alloc(), &list, &event, &mut InTenth, 0)?;
+    assert_eq!(rt; places.as_slice(), [2].as_slice());
+    let places = matching_without(rt.alloc(), &list, &event, &mut InTenth, 1)?;
+    assert_eq!(rt; places.as_slice(), [0, 2].as_slice());
     Ok(())
 }

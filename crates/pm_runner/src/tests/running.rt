@@ -22,12 +22,15 @@ fn is_refused(tried: bool, place: Place) -> bool
 }
 
 impl Acts for Noting {
+    ghost use Rattle.std.specs.Prelude.{[]};
     ghost use Rattle.pm_model.specs.State.{opening_graph};
     ghost use Rattle.pm_runner.specs.Worked.{occasion_of};
 
     ghost occasion = { λ s. occasion_of s.first s.second s.tried };
 
     ghost graph = { λ s. opening_graph };
+
+    ghost history = { λ s. [] };
 
     #[tactic(auto, using(crate::proofs::WorkedTurns::passed_by))]
     fn act(&mut self, place: Place) -> Result<(), ActError> {

@@ -21,6 +21,7 @@ returns-in_err-act_at-clause-stopped g c =
 pub loop-i-preserved : goal.loop-i-preserved
 loop-i-preserved g c = record {
   same = c.in_ok-act_at.ensures.same ∙ c.loop-i.invariant.same;
+  history = c.in_ok-act_at.ensures.history ∙ c.loop-i.invariant.history;
   made = act-done (g.A.Acts.occasion c.args.acts.now) c.args.obligation.now c.args.index c.loop-i.i (g.A.Acts.graph c.args.acts.now) (g.A.Acts.graph c.loop-i.acts)
       (g.A.Acts.graph c.act_at.new.acts) (omega (arith, ap length c.actions-actions.ensures.actions)) c.requires.due.stands c.loop-i.invariant.made (rw c.loop-i.invariant.same at c.in_ok-act_at.ensures.ok);
 }

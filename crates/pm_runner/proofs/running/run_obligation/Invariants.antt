@@ -8,6 +8,7 @@ invariant-loop-i g l =
     let occasion = g.A.Acts.occasion l.fn.acts in
     record {
       same : g.A.Acts.occasion l.acts ≡ occasion;
+      history : g.A.Acts.history l.acts ≡ g.A.Acts.history l.fn.acts;
       made : obliged occasion l.obligation (l.index + 1) (g.A.Acts.graph l.fn.acts) (take l.i l.obligation.response)
           ≡ Ok (g.A.Acts.graph l.acts);
     }

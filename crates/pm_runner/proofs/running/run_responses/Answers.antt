@@ -25,6 +25,7 @@ returns-in_err-run_obligation-clause-stopped g c =
 pub loop-i-preserved : goal.loop-i-preserved
 loop-i-preserved g c = record {
   same = c.in_ok-run_obligation.ensures.same ∙ c.loop-i.invariant.same;
+  history = c.in_ok-run_obligation.ensures.history ∙ c.loop-i.invariant.history;
   made = response-done (g.A.Acts.occasion c.args.acts.now) (g.A.Acts.occasion c.loop-i.acts) c.loop-i.i (g.A.Acts.graph c.args.acts.now)
       (g.A.Acts.graph c.loop-i.acts) (g.A.Acts.graph c.run_obligation.new.acts) c.at.result.now c.loop-i.invariant.same
       (stands_at _ _ _ c.loop-i.i c.at-place.result.now c.at.result.now c.requires.places c.at-place.ensures c.at.ensures)

@@ -8,5 +8,6 @@ invariant-loop-i g l =
     let occasion = g.A.Acts.occasion l.fn.acts in
     record {
       same : g.A.Acts.occasion l.acts ≡ occasion;
+      history : g.A.Acts.history l.acts ≡ g.A.Acts.history l.fn.acts;
       made : responded_by occasion (g.A.Acts.graph l.fn.acts) (take l.i occasion.obligations) ≡ Ok (g.A.Acts.graph l.acts);
     }

@@ -1,0 +1,28 @@
+-- The place at i comes to the others where the obligation matches and isn't left out.
+use Rattle.std.proofs.Common.{◌≡◌, ◌∙◌, sym, ◌∷◌, [], false, length-append, arith}
+use Rattle.pm_runner.specs.Standing.{is_at}
+use Rattle.pm_runner.proofs.Places.{one-passes, one-fails, one-left-out, below-more}
+use Rattle.pm_runner.proofs.matched.places_of.Goals as goal
+use Rattle.pm_runner.proofs.matched.places_of.Goals.{then-matches+in_ok-push, else-matches}
+
+pub loop-i-preserved : goal.loop-i-preserved
+loop-i-preserved g c =
+    let other : is_at c.args.left_out c.loop-i.i ≡ false = sym c.is_at.ensures ∙ c.if-is_at.false in
+    elim c.if-matches.branch [
+      | then-matches+in_ok-push w ↦ record {
+        same = c.matches.ensures.same ∙ c.loop-i.invariant.same;
+        places = rw (w.places-is, w.in_ok-push.ensures.ok)
+            (one-passes _ c.args.left_out _ c.loop-i.places c.loop-i.i c.at.result.now c.loop-i.invariant.places c.at.ensures other
+            (rw c.loop-i.invariant.same at w.if-matches.ensures.answer));
+        below = rw (w.places-is, w.in_ok-push.ensures.ok) (below-more _ c.loop-i.places c.loop-i.i c.loop-i.invariant.below (omega arith));
+        few = rw (w.places-is, w.in_ok-push.ensures.ok) (omega (arith, length-append c.loop-i.places (c.loop-i.i ∷ [])));
+      }
+      | else-matches w ↦ record {
+        same = c.matches.ensures.same ∙ c.loop-i.invariant.same;
+        places = rw w.places-is
+            (one-fails _ c.args.left_out _ c.loop-i.places c.loop-i.i c.at.result.now c.loop-i.invariant.places c.at.ensures other
+            (rw c.loop-i.invariant.same at w.if-matches.ensures.answer));
+        below = rw w.places-is c.loop-i.invariant.below;
+        few = rw w.places-is (omega arith);
+      }
+    ]
