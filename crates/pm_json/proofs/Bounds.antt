@@ -1,11 +1,11 @@
 -- How long the line of a reply may be.
-use Rattle.std.proofs.Common.{◌≤◌, ◌<◌, ◌^◌, ◌+◌, ℕ, List, [], ◌∷◌, ◌++◌, IsTrue, Option, None, Some, IfSome, length, decimal, ap, arith, length-append}
+use Rattle.std.proofs.Common.{◌≤◌, ◌<◌, ◌^◌, ◌+◌, ℕ, List, [], ◌∷◌, ◌++◌, IsTrue, Option, None, Some, IfSome, ◌==◌, length, decimal, ap, arith, length-append}
 use Rattle.std.specs.Prelude.{codes}
 use Rattle.json.specs.Print.{quoted}
 use Rattle.serde_json.specs.Data.{number, unsigned}
 use Rattle.pm_model.specs.Name.{is_name}
 use Rattle.pm_model.specs.Object.{whole_if, texted}
-use Rattle.pm_model.specs.Text.{text, front, bad_front, no_front, ok_front, done_front, process_shown, session_shown, unknown_front, full_front, denied_front, refusal_front, table_word, said}
+use Rattle.pm_model.specs.Text.{text, front, back, bad_front, no_front, done_front, fired_if, granted_front, response_front, refusal_word, process_shown, session_shown, unknown_front, full_front, denied_front, refusal_front, table_word, said}
 use Rattle.pm_model.specs.Words.{key_text, word_text}
 use Rattle.pm_model.specs.declared.words.Key.{Key}
 use Rattle.pm_model.specs.declared.words.Key.TheVariants as key
@@ -17,14 +17,15 @@ use Rattle.pm_model.specs.declared.lines.BadLine.TheVariants.{TooLong, NotJson, 
 use Rattle.pm_model.specs.declared.replies.Refusal.{Refusal}
 use Rattle.pm_model.specs.declared.replies.Refusal.TheVariants as refusal
 use Rattle.pm_model.specs.declared.replies.Reply.{Reply}
-use Rattle.pm_model.specs.declared.replies.Reply.TheVariants.{Done, Granted, Bad, Ahead, Refused}
+use Rattle.pm_model.specs.declared.replies.Reply.TheVariants.{Done, Granted, Bad, Ahead, Refused, ResponseRefused}
 use Rattle.pm_model.specs.declared.replies.Reason.{Reason}
 use Rattle.pm_model.specs.declared.replies.Reason.TheVariants.{Class, Prohibition}
 use Rattle.pm_model.specs.declared.replies.Shown.{Shown}
 use Rattle.pm_model.specs.declared.replies.Shown.TheVariants as shown
 use Rattle.pm_model.specs.declared.replies.Table.{Table}
 use Rattle.pm_json.specs.Printable.{names_in, names_in_refusal, names_in_reason, numbers_in, numbers_in_shown, ShowsNames, ShowsNumbers, IsPrintable}
-use Rattle.pm_json.specs.Members.{keyed, trailing, trailing_all}
+use Rattle.pm_json.specs.Members.{keyed, leading, leading_all, trailing, trailing_all}
+use Rattle.pm_json.proofs.Distinct.{by_test}
 use Rattle.pm_json.proofs.Members.{line_by}
 use Rattle.pm_json.proofs.Texts.{key_name, word_name, quoted_size, decimal_size}
 
@@ -78,8 +79,13 @@ HasNumber h = IfSome h.id (λ n. n < 2 ^ 64)
 no_size : (h : Head) (w : Word) → HasNumber h → length (trailing_all (no_front h w)) ≤ 222
 no_size h w i = more _ _ _ _ (number_size key.Id h.id i) (more _ [] _ 0 (word_size key.No w) ended)
 
-ok_size : (h : Head) (w : Word) → HasNumber h → length (trailing_all (ok_front h w)) ≤ 222
-ok_size h w i = more _ _ _ _ (number_size key.Id h.id i) (more _ [] _ 0 (word_size key.Ok w) ended)
+fired_size : (fired : ℕ) → fired < 2 ^ 64 → length (trailing (key_text key.Fired) (whole_if (fired_if fired))) ≤ 88
+fired_size fired n = by_test (fired == 0) (λ none. rw none (number_size key.Fired None tt)) (λ some. rw some (number_size key.Fired (Some fired) n))
+
+granted_size : (h : Head) (fired : ℕ) → HasNumber h → fired < 2 ^ 64 → length (trailing_all (granted_front h fired)) ≤ 758
+granted_size h fired i n =
+    let e = more _ _ _ _ (fired_size fired n) (more _ _ _ _ (number_size key.Id h.id i) (more _ [] _ 0 (word_size key.Ok word.Granted) ended)) in
+    omega (arith, e)
 
 process_size : (made : Shown) → ShowsNumbers (numbers_in_shown made) → length (trailing (key_text key.Process) (whole_if (process_shown made))) ≤ 88
 process_size shown.Nothing n = number_size key.Process None tt
@@ -91,31 +97,32 @@ session_size shown.Nothing n = number_size key.Session None tt
 session_size (shown.Session m) n = number_size key.Session (Some m) n.0
 session_size (shown.Process m) n = number_size key.Session None tt
 
-done_size : (h : Head) (made : Shown) → HasNumber h → ShowsNumbers (numbers_in_shown made) → length (trailing_all (done_front h made)) ≤ 804
-done_size h made i n =
-    let e = more _ _ _ _ (number_size key.Id h.id i) (more _ _ _ _ (word_size key.Ok word.Done)
-    (more _ _ _ _ (process_size made n) (more _ [] _ 0 (session_size made n) ended))) in
+done_size : (h : Head) (fired : ℕ) (made : Shown) → HasNumber h → fired < 2 ^ 64 → ShowsNumbers (numbers_in_shown made)
+    → length (trailing_all (done_front h fired made)) ≤ 758
+done_size h fired made i f n =
+    let e = more _ _ _ _ (fired_size fired f) (more _ _ _ _ (number_size key.Id h.id i) (more _ _ _ _ (word_size key.Ok word.Done)
+    (more _ _ _ _ (process_size made n) (more _ [] _ 0 (session_size made n) ended)))) in
     omega (arith, e)
 
-bad_size : (h : Head) (bad : BadLine) → HasNumber h → length (trailing_all (bad_front h bad)) ≤ 804
+bad_size : (h : Head) (bad : BadLine) → HasNumber h → length (trailing_all (bad_front h bad)) ≤ 758
 bad_size h TooLong i = let e = no_size h word.TooLong i in omega (arith, e)
 bad_size h NotJson i = let e = no_size h word.NotJson i in omega (arith, e)
 bad_size h NotRequest i = let e = no_size h word.NotRequest i in omega (arith, e)
 bad_size h UnknownCommand i = let e = no_size h word.UnknownCommand i in omega (arith, e)
 bad_size h (BadField f) i = let e = more _ _ _ _ (name_size key.Field (key_text f) (key_name f)) (no_size h word.BadField i) in omega (arith, e)
 
-unknown_size : (h : Head) (name : List ℕ) → HasNumber h → IsTrue (is_name name) → length (trailing_all (unknown_front h name)) ≤ 804
+unknown_size : (h : Head) (name : List ℕ) → HasNumber h → IsTrue (is_name name) → length (trailing_all (unknown_front h name)) ≤ 758
 unknown_size h name i n =
     let e = more _ _ _ _ (number_size key.Id h.id i) (more _ _ _ _ (name_size key.Name name n) (more _ [] _ 0 (word_size key.No word.UnknownName) ended)) in
     omega (arith, e)
 
-full_size : (h : Head) (table : Table) → HasNumber h → length (trailing_all (full_front h table)) ≤ 804
+full_size : (h : Head) (table : Table) → HasNumber h → length (trailing_all (full_front h table)) ≤ 758
 full_size h table i =
     let e = more _ _ _ _ (number_size key.Id h.id i) (more _ _ _ _ (word_size key.No word.Full) (more _ [] _ 0 (word_size key.Table (table_word table)) ended)) in
     omega (arith, e)
 
 denied_size : (h : Head) (names : ℕ → List ℕ) (right : List ℕ) (target : ℕ) (reason : Reason) → HasNumber h
-    → ShowsNames (right ∷ names target ∷ names_in_reason names reason) → length (trailing_all (denied_front h names right target reason)) ≤ 804
+    → ShowsNames (right ∷ names target ∷ names_in_reason names reason) → length (trailing_all (denied_front h names right target reason)) ≤ 758
 denied_size h names right target (Class pc) i n =
     let e = more _ _ _ _ (name_size key.Class (names pc) n.1.1.0) (more _ _ _ _ (number_size key.Id h.id i) (more _ _ _ _ (word_size key.No word.Denied)
     (more _ _ _ _ (none_size key.Prohibition) (more _ _ _ _ (name_size key.Right right n.0) (more _ [] _ 0 (name_size key.Target (names target) n.1.0) ended))))) in
@@ -125,7 +132,7 @@ denied_size h names right target (Prohibition name) i n =
     (more _ _ _ _ (name_size key.Prohibition name n.1.1.0) (more _ _ _ _ (name_size key.Right right n.0) (more _ [] _ 0 (name_size key.Target (names target) n.1.0) ended))))) in
     omega (arith, e)
 
-refusal_size : (h : Head) (names : ℕ → List ℕ) (why : Refusal) → HasNumber h → ShowsNames (names_in_refusal names why) → length (trailing_all (refusal_front h names why)) ≤ 804
+refusal_size : (h : Head) (names : ℕ → List ℕ) (why : Refusal) → HasNumber h → ShowsNames (names_in_refusal names why) → length (trailing_all (refusal_front h names why)) ≤ 758
 refusal_size h names refusal.UnknownProcess i n = let e = no_size h word.UnknownProcess i in omega (arith, e)
 refusal_size h names refusal.UnknownSession i n = let e = no_size h word.UnknownSession i in omega (arith, e)
 refusal_size h names refusal.BadKinds i n = let e = no_size h word.BadKinds i in omega (arith, e)
@@ -142,13 +149,39 @@ refusal_size h names (refusal.UnknownName name) i n = unknown_size h name i n.0
 refusal_size h names (refusal.Denied right target reason) i n = denied_size h names right target reason i n
 refusal_size h names (refusal.Full table) i n = full_size h table i
 
+response_size : (h : Head) (obligation : List ℕ) (action : ℕ) (why : Refusal) → HasNumber h → action < 2 ^ 64 → IsTrue (is_name obligation)
+    → length (trailing_all (response_front h obligation action why)) ≤ 758
+response_size h obligation action why i m n =
+    let e = more _ _ _ _ (number_size key.Action (Some action) m) (more _ _ _ _ (number_size key.Id h.id i) (more _ _ _ _ (word_size key.No word.ResponseRefused)
+    (more _ [] _ 0 (name_size key.Obligation obligation n) ended))) in
+    omega (arith, e)
+
 front_size : (h : Head) (names : ℕ → List ℕ) (reply : Reply) → HasNumber h → ShowsNumbers (numbers_in reply) → ShowsNames (names_in names reply)
-    → length (trailing_all (front h names reply)) ≤ 804
-front_size h names (Done made) i m n = done_size h made i m
-front_size h names Granted i m n = let e = ok_size h word.Granted i in omega (arith, e)
+    → length (trailing_all (front h names reply)) ≤ 758
+front_size h names (Done fired made) i m n = done_size h fired made i m.0 m.1
+front_size h names (Granted fired) i m n = granted_size h fired i m.0
 front_size h names (Bad bad) i m n = bad_size h bad i
 front_size h names Ahead i m n = let e = no_size h word.Ahead i in omega (arith, e)
 front_size h names (Refused why) i m n = refusal_size h names why i n
+front_size h names (ResponseRefused obligation action why) i m n = response_size h obligation action why i m.0 n.0
+
+-- ---- the member behind `v`
+
+behind_size : (k : Key) (w : Word) → length (leading (key_text k) (said w)) ≤ 134
+unfolding leading
+behind_size k w =
+    let lead = key_size k in
+    let q = quoted_size (word_text w) (word_name w) in
+    let a = length-append (keyed (key_text k)) (quoted (word_text w)) in
+    omega (arith, lead, q, a)
+
+back_size : (reply : Reply) → length (leading_all (back reply)) ≤ 134
+back_size (Done fired made) = omega arith
+back_size (Granted fired) = omega arith
+back_size (Bad bad) = omega arith
+back_size Ahead = omega arith
+back_size (Refused why) = omega arith
+back_size (ResponseRefused obligation action why) = more _ [] _ 0 (behind_size key.Why (refusal_word why)) ended
 
 -- ---- the line
 
@@ -156,10 +189,13 @@ pub reply_is_short : (id : Option ℕ) (v : ℕ) (names : ℕ → List ℕ) (rep
 reply_is_short id v names reply p =
     let members = trailing_all (front (record { id = id }) names reply) in
     let f = front_size (record { id = id }) names reply p.id_fits p.numbers_fit p.named in
-    let e = ap length (line_by (key_text key.V) (number (unsigned v)) [] (front (record { id = id }) names reply)) in
+    let g = back_size reply in
+    let e = ap length (line_by (key_text key.V) (number (unsigned v)) (back reply) (front (record { id = id }) names reply)) in
     let k = key_size key.V in
     let d = decimal_size v p.version_fits in
-    let a = length-append members (keyed (key_text key.V) ++ (decimal v ++ codes "}\n")) in
-    let b = length-append (keyed (key_text key.V)) (decimal v ++ codes "}\n") in
-    let c = length-append (decimal v) (codes "}\n") in
-    omega (arith, f, e, k, d, a, b, c)
+    let last = leading_all (back reply) in
+    let a = length-append members (keyed (key_text key.V) ++ (decimal v ++ (last ++ codes "}\n"))) in
+    let b = length-append (keyed (key_text key.V)) (decimal v ++ (last ++ codes "}\n")) in
+    let c = length-append (decimal v) (last ++ codes "}\n") in
+    let l = length-append last (codes "}\n") in
+    omega (arith, f, g, e, k, d, a, b, c, l)

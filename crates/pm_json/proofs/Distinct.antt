@@ -6,7 +6,7 @@ use Rattle.std.proofs.lemmas.Map.Views.{any-filter_same}
 use Rattle.std.proofs.lemmas.Slice.Eq.{bytes_eq-Decides}
 use Rattle.std.specs.Cmp.{both_ways}
 use Rattle.std.specs.List.{list_any}
-use Rattle.pm_model.specs.Asked.{distinct}
+use Rattle.pm_model.specs.Forms.{distinct}
 
 -- those that aren't this one
 abbrev pub others : List ℕ → List (List ℕ) → List (List ℕ)

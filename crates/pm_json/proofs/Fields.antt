@@ -10,7 +10,7 @@ use Rattle.json.proofs.Printed.Utf8.{are_ascii, IsUtf8-are_ascii}
 use Rattle.serde_json.specs.Data.{Data, object, depth, members_depth}
 use Rattle.serde_json.specs.Find.{get_member}
 use Rattle.pm_model.specs.Object.{present}
-use Rattle.pm_model.specs.Asked.{looking}
+use Rattle.pm_model.specs.Forms.{looking}
 use Rattle.pm_json.proofs.Fair.{all_above, IsFair, MembersFair}
 
 abbrev pub or_else : Option Data → Option Data → Option Data

@@ -3,7 +3,7 @@ use Rattle.std.proofs.Common.{◌≡◌, ◌<◌, ◌+◌, ℕ, List, [], ◌∷
 use Rattle.serde_json.specs.Data.{Data, item}
 use Rattle.serde_json.specs.View.{view, items_view}
 use Rattle.serde_json.specs.declared.value.Value.{Value}
-use Rattle.pm_model.specs.Asked.{list_of}
+use Rattle.pm_model.specs.Forms.{list_of}
 
 -- what stands behind these, where it can be read
 abbrev pub behind : {A : Type 0} → List A → Option (List A) → Option (List A)

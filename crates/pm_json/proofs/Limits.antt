@@ -6,7 +6,7 @@ use Rattle.std.proofs.lemmas.List.{length-map}
 use Rattle.std.proofs.lemmas.List.Sums.{sum_by-cons}
 use Rattle.std.proofs.lemmas.List.Filters.{length-filter_both}
 use Rattle.pm_model.specs.Actions.{names_in_act, names_in_action, names_in_actions, response_refusal, max_names}
-use Rattle.pm_model.specs.Asked.{distinct}
+use Rattle.pm_model.specs.Forms.{distinct}
 use Rattle.pm_model.specs.ResponseForms.{act_as_set, as_set}
 use Rattle.pm_model.specs.declared.actions.Act.{Act}
 use Rattle.pm_model.specs.declared.actions.Act.TheVariants.{Create, Delete, Assign, Deassign, Associate, Dissociate, Prohibit, Lift}

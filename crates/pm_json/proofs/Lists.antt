@@ -13,7 +13,8 @@ use Rattle.std.specs.Str.{is_utf8}
 use Rattle.serde_json.specs.Data.{Data}
 use Rattle.serde_json.specs.Read.{read}
 use Rattle.pm_model.specs.Asked as form
-use Rattle.pm_model.specs.Asked.{asked, asked_of, looking, distinct, list_form, listed_form, rights_form, if_some_few, if_few_beside, what_of, whole_form}
+use Rattle.pm_model.specs.Forms.{distinct, if_few_beside, if_some_few, list_form, listed_form, looking, rights_form, whole_form}
+use Rattle.pm_model.specs.Asked.{asked, asked_of, what_of}
 use Rattle.pm_model.specs.Results.{and_then}
 use Rattle.pm_model.specs.Words.{key_text}
 use Rattle.pm_model.specs.declared.words.Key.{Key}
@@ -22,7 +23,7 @@ use Rattle.pm_model.specs.declared.lines.BadLine.{BadLine}
 use Rattle.pm_model.specs.declared.elements.Kind.{Kind}
 use Rattle.pm_model.specs.declared.elements.Kind.TheVariants.{User, Ua, Object, Oa}
 use Rattle.pm_model.specs.declared.requests.Command.{Command}
-use Rattle.pm_model.specs.declared.requests.Command.TheVariants.{CreatePc, Create, Delete, Assign, Deassign, Associate, Dissociate, Prohibit, Lift, DefineRight}
+use Rattle.pm_model.specs.declared.requests.Command.TheVariants.{CreatePc, Create, Delete, Assign, Deassign, Associate, Dissociate, Prohibit, Lift, DefineRight, Oblige, Withdraw}
 use Rattle.pm_model.specs.declared.requests.Body.{Body}
 use Rattle.pm_model.specs.declared.requests.Body.TheVariants.{Version, OpenSession, CloseSession, StartProcess, EndProcess, Access, Admin}
 use Rattle.pm_model.specs.declared.requests.Request.{Request}
@@ -185,6 +186,10 @@ module _ (look : List ℕ → Option Data) where
       after Has (form.sets_of look) _ (λ sets found. after Has (form.mode_at look) _ (λ mode k.
       here Has (Prohibit name subject rights sets.0 sets.1 mode) (has_rights rights read, of_given SetsHave (form.sets_of look) sets sets_have found))))))
 
+  oblige : Gives Has (form.oblige_of look)
+  oblige =
+      after Has (form.name_at look key.Name) _ (λ name i. after Has (form.when_at look) _ (λ when j. after Has (form.do_at look) _ (λ response k. here Has (Oblige name when response) tt)))
+
   open_session : RowHas (form.open_session_of look)
   open_session = after BodyHas (form.name_at look key.User) _ (λ user i. here BodyHas (OpenSession user) tt)
 
@@ -215,7 +220,8 @@ module _ (look : List ℕ → Option Data) where
       (step w _ _ _ (admin _ (create Oa)) (step w _ _ _ (admin _ (create Object)) (step w _ _ _ (admin _ (named Delete (λ name. tt)))
       (step w _ _ _ (admin _ assign) (step w _ _ _ (admin _ deassign) (step w _ _ _ (admin _ associate) (step w _ _ _ (admin _ dissociate)
       (step w _ _ _ (admin _ prohibit) (step w _ _ _ (admin _ (named Lift (λ name. tt))) (step w _ _ _ (admin _ (named DefineRight (λ name. tt)))
-      (step w _ _ None access (record { has = tt })))))))))))))))))))
+      (step w _ _ _ (admin _ oblige) (step w _ _ _ (admin _ (named Withdraw (λ name. tt)))
+      (step w _ _ None access (record { has = tt })))))))))))))))))))))
 
   -- ---- the whole line
 

@@ -1,8 +1,8 @@
 -- What a reply's line says, by a look-up of its members.
-use Rattle.std.proofs.Common.{ℕ, List, [], ◌∷◌, Option, None, Some, option_and_then, option_map, if◌then◌else◌, bytes_eq}
+use Rattle.std.proofs.Common.{ℕ, List, [], ◌∷◌, Option, None, Some, option_and_then, option_map, unwrap_or, if◌then◌else◌, bytes_eq}
 use Rattle.serde_json.specs.Data.{Data}
 use Rattle.serde_json.specs.Find.{as_str}
-use Rattle.pm_model.specs.Asked.{name_form, whole_form}
+use Rattle.pm_model.specs.Forms.{name_form, whole_form}
 use Rattle.pm_model.specs.Words.{key_text, word_text}
 use Rattle.pm_model.specs.declared.words.Key.{Key}
 use Rattle.pm_model.specs.declared.words.Key.TheVariants as key
@@ -15,7 +15,7 @@ use Rattle.pm_model.specs.declared.replies.Table.TheVariants as table
 use Rattle.pm_model.specs.declared.replies.Reply.TheVariants.{Done, Granted, Bad, Ahead, Refused}
 use Rattle.pm_model.specs.declared.replies.Shown as made
 use Rattle.pm_model.specs.declared.replies.Shown.TheVariants as shown
-use Rattle.pm_json.specs.Shown.{Shown, plain, denied, prohibited}
+use Rattle.pm_json.specs.Shown.{Shown, plain, denied, prohibited, response_refused}
 
 pub record Said : Type 0 where
   pub id : Option ℕ
@@ -46,6 +46,16 @@ table_words =
     ∷ (word.Prohibitions, table.Prohibitions) ∷ (word.Obligations, table.Obligations) ∷ (word.Sessions, table.Sessions)
     ∷ (word.Processes, table.Processes) ∷ (word.Rights, table.Rights) ∷ (word.History, table.History) ∷ []
 
+abbrev pub refusal_words : List (Word × Word)
+refusal_words =
+    each_word (word.UnknownProcess ∷ word.UnknownSession ∷ word.UnknownName ∷ word.Denied ∷ word.BadKinds ∷ word.NameTaken
+    ∷ word.Already ∷ word.Absent ∷ word.Cycle ∷ word.Occupied ∷ word.InUse ∷ word.LastContainer
+    ∷ word.Builtin ∷ word.EmptyRange ∷ word.Full ∷ []) where
+      -- each beside itself
+      each_word : List Word → List (Word × Word)
+      each_word [] = []
+      each_word (w ∷ ws) = (w, w) ∷ each_word ws
+
 -- by the number of a process, or else of a session
 abbrev pub made_by : Option ℕ → Option ℕ → made.Shown
 made_by (Some n) _ = shown.Process n
@@ -68,8 +78,12 @@ module _ (look : List ℕ → Option Data) where
   abbrev pub number_at : Key → Option ℕ
   number_at k = option_and_then whole_form (look (key_text k))
 
+  -- none responded where no number is told
+  abbrev pub fired : ℕ
+  fired = unwrap_or (number_at key.Fired) 0
+
   abbrev pub done : Shown
-  done = plain (Done (made_by (number_at key.Process) (number_at key.Session)))
+  done = plain (Done fired (made_by (number_at key.Process) (number_at key.Session)))
 
   abbrev pub bad_field : Option Shown
   bad_field = option_map (λ k. plain (Bad (BadField k))) (option_and_then (spelt keys) (text_at key.Field))
@@ -85,8 +99,13 @@ module _ (look : List ℕ → Option Data) where
   abbrev pub full : Option Shown
   full = option_map (λ t. plain (Refused (refusal.Full t))) (option_and_then (beside table_words) (text_at key.Table))
 
+  abbrev pub response : Option Shown
+  response =
+      option_and_then (λ obligation. option_and_then (λ action. option_map (response_refused obligation action)
+      (option_and_then (beside refusal_words) (text_at key.Why))) (number_at key.Action)) (name_at key.Obligation)
+
   abbrev pub ok_words : List (Word × Shown)
-  ok_words = (word.Done, done) ∷ (word.Granted, plain Granted) ∷ []
+  ok_words = (word.Done, done) ∷ (word.Granted, plain (Granted fired)) ∷ []
 
   abbrev pub no_words : List (Word × Option Shown)
   no_words =
@@ -101,7 +120,7 @@ module _ (look : List ℕ → Option Data) where
       ∷ (word.Occupied, Some (plain (Refused refusal.Occupied))) ∷ (word.InUse, Some (plain (Refused refusal.InUse)))
       ∷ (word.LastContainer, Some (plain (Refused refusal.LastContainer)))
       ∷ (word.Builtin, Some (plain (Refused refusal.Builtin))) ∷ (word.EmptyRange, Some (plain (Refused refusal.EmptyRange)))
-      ∷ (word.Full, full) ∷ []
+      ∷ (word.Full, full) ∷ (word.ResponseRefused, response) ∷ []
 
   -- by the word at `no`, or else at `ok`
   abbrev pub shown_from : Option (List ℕ) → Option Shown

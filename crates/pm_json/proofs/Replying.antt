@@ -1,5 +1,5 @@
 -- A reply is what the members of its line say.
-use Rattle.std.proofs.Common.{take, length, length-append, ◌≡◌, ℕ, ◌<◌, ◌^◌, List, [], ◌∷◌, ◌++◌, true, nat_lt, IsTrue, Option, None, Some, IfSome, option_and_then, unwrap_or, refl, sym, ap, ap₂, ◌∙◌, arith, lt-ltb}
+use Rattle.std.proofs.Common.{take, length, length-append, ◌≡◌, ℕ, ◌<◌, ◌^◌, List, [], ◌∷◌, ◌++◌, true, nat_lt, IsTrue, Option, None, Some, IfSome, option_and_then, unwrap_or, ◌==◌, eqb-true, refl, sym, ap, ap₂, ◌∙◌, arith, lt-ltb}
 use Rattle.std.proofs.Math.Seq.{take-append_seam}
 use Rattle.std.proofs.lemmas.Bool.{and_parts, and_from}
 use Rattle.std.specs.List.{list_all}
@@ -7,10 +7,10 @@ use Rattle.json.proofs.Printed.Utf8.{are_ascii, IsUtf8-are_ascii}
 use Rattle.serde_json.specs.Data.{Data, object}
 use Rattle.serde_json.specs.Read.{read}
 use Rattle.serde_json.specs.Written.{compact_text}
-use Rattle.pm_model.specs.Asked.{looking, whole_form}
+use Rattle.pm_model.specs.Forms.{looking, whole_form}
 use Rattle.pm_model.specs.Name.{is_name, is_name_byte}
 use Rattle.pm_model.specs.Object.{present, whole, whole_if, texted}
-use Rattle.pm_model.specs.Text.{text, front, no_front, said, table_word, with_version}
+use Rattle.pm_model.specs.Text.{text, front, back, fired_if, no_front, refusal_word, said, table_word, with_version}
 use Rattle.pm_model.specs.Words.{key_text, word_text}
 use Rattle.pm_model.specs.declared.words.Word.{Word}
 use Rattle.pm_model.specs.declared.words.Word.TheVariants as word
@@ -22,7 +22,7 @@ use Rattle.pm_model.specs.declared.replies.Refusal.{Refusal}
 use Rattle.pm_model.specs.declared.replies.Refusal.TheVariants as refusal
 use Rattle.pm_model.specs.declared.replies.Table.TheVariants as table
 use Rattle.pm_model.specs.declared.replies.Reply.{Reply}
-use Rattle.pm_model.specs.declared.replies.Reply.TheVariants.{Done, Granted, Bad, Ahead, Refused}
+use Rattle.pm_model.specs.declared.replies.Reply.TheVariants.{Done, Granted, Bad, Ahead, Refused, ResponseRefused}
 use Rattle.pm_model.specs.declared.replies.Reason.{Reason}
 use Rattle.pm_model.specs.declared.replies.Reason.TheVariants.{Class, Prohibition}
 use Rattle.pm_model.specs.declared.replies.Shown as made
@@ -31,6 +31,7 @@ use Rattle.pm_json.specs.Printable.{names_in, names_in_refusal, names_in_reason,
 use Rattle.pm_json.specs.Shown.{Shown, shown}
 use Rattle.pm_json.proofs.Fair.{read-compact}
 use Rattle.pm_json.proofs.Fields.{or_else, in_order, ValueFair, ValuesFair, MembersFair-present, shallow-present, finding, looks}
+use Rattle.pm_json.proofs.Distinct.{by_test}
 use Rattle.pm_json.proofs.Members.{plain-name}
 use Rattle.pm_json.proofs.Replied as replied
 use Rattle.pm_json.proofs.Texts.{key_name, word_name}
@@ -44,6 +45,27 @@ or_none (Some d) = refl
 number_told : (n : Option ℕ) → option_and_then whole_form (whole_if n) ≡ n
 number_told None = refl
 number_told (Some n) = refl
+
+fired_told : (fired : ℕ) → unwrap_or (fired_if fired) 0 ≡ fired
+fired_told fired = by_test (fired == 0) (λ none. rw none (sym (eqb-true fired 0 none))) (λ some. rw some refl)
+
+refusal_told : (why : Refusal) → replied.beside replied.refusal_words (word_text (refusal_word why)) ≡ Some (refusal_word why)
+unfolding word_text
+refusal_told refusal.UnknownProcess = refl
+refusal_told refusal.UnknownSession = refl
+refusal_told (refusal.UnknownName name) = refl
+refusal_told (refusal.Denied right target reason) = refl
+refusal_told refusal.BadKinds = refl
+refusal_told refusal.NameTaken = refl
+refusal_told refusal.Already = refl
+refusal_told refusal.Absent = refl
+refusal_told refusal.Cycle = refl
+refusal_told refusal.Occupied = refl
+refusal_told refusal.InUse = refl
+refusal_told refusal.LastContainer = refl
+refusal_told refusal.Builtin = refl
+refusal_told refusal.EmptyRange = refl
+refusal_told (refusal.Full table) = refl
 
 spelt_key : (k : Key) → replied.spelt replied.keys (key_text k) ≡ Some k
 unfolding key_text
@@ -87,7 +109,7 @@ abbrev said_as : Option ℕ → ℕ → Shown → replied.Said
 said_as id v what = record { id = id; version = v; shown = what }
 
 abbrev members : Option ℕ → ℕ → (ℕ → List ℕ) → Reply → List (List ℕ × Option Data)
-members id v names reply = with_version v (front (record { id = id }) names reply)
+members id v names reply = with_version v (front (record { id = id }) names reply) (back reply)
 
 abbrev Told : Option ℕ → ℕ → (ℕ → List ℕ) → Reply → Type 0
 Told id v names reply = replied.said (finding (members id v names reply)) ≡ Some (said_as id v (shown names reply))
@@ -137,19 +159,24 @@ module _ (id : Option ℕ) (v : ℕ) (names : ℕ → List ℕ) where
   told_refused (refusal.Full table.Rights) h = rw (or_none (whole_if id), number_told id) refl
   told_refused (refusal.Full table.History) h = rw (or_none (whole_if id), number_told id) refl
 
-  told_done : (what : made.Shown) → Told id v names (Done what)
+  told_done : (fired : ℕ) (what : made.Shown) → Told id v names (Done fired what)
   unfolding key_text word_text
-  told_done shows.Nothing = rw (or_none (whole_if id), number_told id) refl
-  told_done (shows.Session n) = rw (or_none (whole_if id), number_told id) refl
-  told_done (shows.Process n) = rw (or_none (whole_if id), number_told id) refl
+  told_done fired shows.Nothing = rw (or_none (whole_if id), number_told id, or_none (whole_if (fired_if fired)), number_told (fired_if fired), fired_told fired) refl
+  told_done fired (shows.Session n) = rw (or_none (whole_if id), number_told id, or_none (whole_if (fired_if fired)), number_told (fired_if fired), fired_told fired) refl
+  told_done fired (shows.Process n) = rw (or_none (whole_if id), number_told id, or_none (whole_if (fired_if fired)), number_told (fired_if fired), fired_told fired) refl
+
+  told_response : (obligation : List ℕ) (action : ℕ) (why : Refusal) → IsTrue (is_name obligation) → Told id v names (ResponseRefused obligation action why)
+  unfolding key_text word_text
+  told_response obligation action why h = let w = refusal_told why in rw (or_none (whole_if id), number_told id, h, w) refl
 
   told : (reply : Reply) → ShowsNames (names_in names reply) → Told id v names reply
   unfolding key_text word_text
-  told (Done what) h = told_done what
-  told Granted h = rw (or_none (whole_if id), number_told id) refl
+  told (Done fired what) h = told_done fired what
+  told (Granted fired) h = rw (or_none (whole_if id), number_told id, or_none (whole_if (fired_if fired)), number_told (fired_if fired), fired_told fired) refl
   told (Bad bad) h = told_bad bad
   told Ahead h = rw (or_none (whole_if id), number_told id) refl
   told (Refused why) h = told_refused why h
+  told (ResponseRefused obligation action why) h = told_response obligation action why h.0
 
 -- ---- the members are fair
 
@@ -171,6 +198,9 @@ fair-said w = fair-plain (word_text w) (plain-name (word_text w) (word_name w))
 fair-number : (n : Option ℕ) → IfSome n (λ n. n < 2 ^ 64) → ValueFair (whole_if n)
 fair-number None h = tt
 fair-number (Some n) h = (h, omega arith)
+
+fair-fired : (fired : ℕ) → fired < 2 ^ 64 → ValueFair (whole_if (fired_if fired))
+fair-fired fired h = by_test (fired == 0) (λ none. rw none tt) (λ some. rw some (h, omega arith))
 
 module _ (id : Option ℕ) (v : ℕ) (names : ℕ → List ℕ) where
   ordered_bad : (bad : BadLine) → in_order (members id v names (Bad bad)) ≡ true
@@ -201,11 +231,12 @@ module _ (id : Option ℕ) (v : ℕ) (names : ℕ → List ℕ) where
 
   ordered : (reply : Reply) → in_order (members id v names reply) ≡ true
   unfolding key_text
-  ordered (Done what) = refl
-  ordered Granted = refl
+  ordered (Done fired what) = refl
+  ordered (Granted fired) = refl
   ordered (Bad bad) = ordered_bad bad
   ordered Ahead = refl
   ordered (Refused why) = ordered_refused why
+  ordered (ResponseRefused obligation action why) = refl
 
 -- the numbers of a line, and the names of elements
 module _ (id : Option ℕ) (v : ℕ) (names : ℕ → List ℕ) (i : IfSome id (λ n. n < 2 ^ 64)) (n : v < 2 ^ 64) where
@@ -215,7 +246,7 @@ module _ (id : Option ℕ) (v : ℕ) (names : ℕ → List ℕ) (i : IfSome id (
   fair-name : (s : List ℕ) → IsTrue (is_name s) → ValueFair (texted s)
   fair-name s h = fair-plain s (plain-name s h)
 
-  fair_no : (w : Word) → ValuesFair (with_version v (no_front (record { id = id }) w))
+  fair_no : (w : Word) → ValuesFair (with_version v (no_front (record { id = id }) w) [])
   fair_no w = (fair-number id i, (fair-said w, (fair_version, tt)))
 
   fair_bad : (bad : BadLine) → ValuesFair (members id v names (Bad bad))
@@ -249,17 +280,19 @@ module _ (id : Option ℕ) (v : ℕ) (names : ℕ → List ℕ) (i : IfSome id (
   fair_refused (refusal.Denied right target reason) h = fair_denied right target reason h
   fair_refused (refusal.Full t) h = (fair-number id i, (fair-said word.Full, (fair-said (table_word t), (fair_version, tt))))
 
-  fair_done : (what : made.Shown) → ShowsNumbers (numbers_in_shown what) → ValuesFair (members id v names (Done what))
-  fair_done shows.Nothing m = (fair-number id i, (fair-said word.Done, (tt, (tt, (fair_version, tt)))))
-  fair_done (shows.Session n) m = (fair-number id i, (fair-said word.Done, (tt, (fair-number (Some n) m.0, (fair_version, tt)))))
-  fair_done (shows.Process n) m = (fair-number id i, (fair-said word.Done, (fair-number (Some n) m.0, (tt, (fair_version, tt)))))
+  fair_done : (fired : ℕ) (what : made.Shown) → ShowsNumbers (fired ∷ numbers_in_shown what) → ValuesFair (members id v names (Done fired what))
+  fair_done fired shows.Nothing m = (fair-fired fired m.0, (fair-number id i, (fair-said word.Done, (tt, (tt, (fair_version, tt))))))
+  fair_done fired (shows.Session n) m = (fair-fired fired m.0, (fair-number id i, (fair-said word.Done, (tt, (fair-number (Some n) m.1.0, (fair_version, tt))))))
+  fair_done fired (shows.Process n) m = (fair-fired fired m.0, (fair-number id i, (fair-said word.Done, (fair-number (Some n) m.1.0, (tt, (fair_version, tt))))))
 
   fair : (reply : Reply) → ShowsNumbers (numbers_in reply) → ShowsNames (names_in names reply) → ValuesFair (members id v names reply)
-  fair (Done what) m h = fair_done what m
-  fair Granted m h = (fair-number id i, (fair-said word.Granted, (fair_version, tt)))
+  fair (Done fired what) m h = fair_done fired what m
+  fair (Granted fired) m h = (fair-fired fired m.0, (fair-number id i, (fair-said word.Granted, (fair_version, tt))))
   fair (Bad bad) m h = fair_bad bad
   fair Ahead m h = fair_no word.Ahead
   fair (Refused why) m h = fair_refused why h
+  fair (ResponseRefused obligation action why) m h =
+      ((m.0, omega arith), (fair-number id i, (fair-said word.ResponseRefused, (fair-name obligation h.0, (fair_version, (fair-said (refusal_word why), tt))))))
 
 -- ---- the whole line
 

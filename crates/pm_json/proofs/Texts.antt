@@ -91,6 +91,7 @@ word_name word.BadField = refl
 word_name word.Ahead = refl
 word_name word.UnknownProcess = refl
 word_name word.UnknownSession = refl
+word_name word.ResponseRefused = refl
 word_name word.UnknownName = refl
 word_name word.Denied = refl
 word_name word.BadKinds = refl

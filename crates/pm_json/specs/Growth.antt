@@ -19,6 +19,6 @@ number_most = 88
 abbrev pub text_most : ℕ
 text_most = 134
 
--- at most six members stand before the version
+-- at most six members stand before the version, of which one is the id
 abbrev pub front_most : ℕ
-front_most = 6 * text_most
+front_most = 5 * text_most + number_most

@@ -3,7 +3,8 @@ use Rattle.std.specs.Prelude.{◌≡◌, ◌≢◌, ◌↔◌, ◌<◌, ◌≤�
 use Rattle.std.specs.List.{AllPairs, position_or_len}
 use Rattle.serde_json.specs.Find.{get}
 use Rattle.serde_json.specs.Read.{read}
-use Rattle.pm_model.specs.Asked.{asked, list_form}
+use Rattle.pm_model.specs.Forms.{list_form}
+use Rattle.pm_model.specs.Asked.{asked}
 use Rattle.pm_model.specs.Words.{key_text}
 use Rattle.pm_model.specs.declared.words.Key.{Key}
 use Rattle.pm_model.specs.declared.words.Key.TheVariants as key

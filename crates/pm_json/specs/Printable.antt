@@ -7,7 +7,7 @@ use Rattle.pm_model.specs.declared.replies.Reason.TheVariants.{Class, Prohibitio
 use Rattle.pm_model.specs.declared.replies.Refusal.{Refusal}
 use Rattle.pm_model.specs.declared.replies.Refusal.TheVariants.{UnknownName, Denied}
 use Rattle.pm_model.specs.declared.replies.Reply.{Reply}
-use Rattle.pm_model.specs.declared.replies.Reply.TheVariants.{Done, Refused}
+use Rattle.pm_model.specs.declared.replies.Reply.TheVariants.{Done, Granted, Refused, ResponseRefused}
 use Rattle.pm_model.specs.declared.replies.Shown as made
 use Rattle.pm_model.specs.declared.replies.Shown.TheVariants as shown
 
@@ -23,6 +23,7 @@ names_in_refusal names _ = []
 -- the names that the reply shows, where elements have these
 abbrev pub names_in : (ℕ → List ℕ) → Reply → List (List ℕ)
 names_in names (Refused why) = names_in_refusal names why
+names_in names (ResponseRefused obligation action why) = obligation ∷ []
 names_in names _ = []
 
 abbrev pub numbers_in_shown : made.Shown → List ℕ
@@ -32,7 +33,9 @@ numbers_in_shown (shown.Process n) = n ∷ []
 
 -- the numbers that the reply shows beside the id and the version
 abbrev pub numbers_in : Reply → List ℕ
-numbers_in (Done what) = numbers_in_shown what
+numbers_in (Done fired what) = fired ∷ numbers_in_shown what
+numbers_in (Granted fired) = fired ∷ []
+numbers_in (ResponseRefused obligation action why) = action ∷ []
 numbers_in _ = []
 
 -- what is shown as a number has 64 bits

@@ -4,7 +4,8 @@ ghost use Rattle.std.specs.List.{list_any};
 ghost use Rattle.serde_json.specs.Data.{Data};
 ghost use Rattle.serde_json.specs.Find.{as_array};
 ghost use Rattle.serde_json.specs.View.{view, items_view};
-ghost use Rattle.pm_model.specs.Asked.{distinct, exc_at, list_form, list_of, listed_form, looking, mode_at, mode_form, mode_of, name_at, name_form, number_at, one_subject, optional, process_of, required, rights_at, rights_form, sets_of, short_form, subject_at, subject_by, whole_form};
+ghost use Rattle.pm_model.specs.Forms.{distinct, list_form, list_of, listed_form, looking, mode_form, mode_of, name_form, one_subject, rights_form, short_form, subject_by, whole_form};
+ghost use Rattle.pm_model.specs.Asked.{exc_at, mode_at, name_at, number_at, optional, process_of, required, rights_at, sets_of, subject_at};
 ghost use Rattle.pm_model.specs.Words.{key_text};
 ghost use Rattle.pm_json.specs.Reads.{Reads};
 

@@ -6,7 +6,7 @@ ghost use Rattle.pm_model.specs.Object.{whole, whole_if, texted};
 ghost use Rattle.pm_model.specs.Text.{said};
 ghost use Rattle.pm_model.specs.Words.{key_text};
 ghost use Rattle.pm_json.specs.Growth.{Appended, number_most, text_most};
-ghost use Rattle.pm_json.specs.Members.{keyed, trailing};
+ghost use Rattle.pm_json.specs.Members.{keyed, leading, trailing};
 
 use itoa::Buffer;
 use pm_model::{Key, Memory, Name, Word};
@@ -55,7 +55,7 @@ pub(crate) fn put_key(out: &mut Vec<u8>, key: Key) -> Result<(), Memory>
 
 /// Appends a member that is a number, and a comma.
 #[tactic(auto, unfolding(crate::specs::Members::trailing))]
-fn put_number(out: &mut Vec<u8>, key: Key, n: u64) -> Result<(), Memory>
+pub(crate) fn put_number(out: &mut Vec<u8>, key: Key, n: u64) -> Result<(), Memory>
     ensures { Appended out.old out.new (trailing (key_text key) (whole n)) number_most result }
 {
     put_key(out, key)?;
@@ -106,4 +106,14 @@ pub(crate) fn put_name(out: &mut Vec<u8>, key: Key, name: &Name) -> Result<(), M
     ensures { Appended out.old out.new (trailing (key_text key) (texted name.now)) text_most result }
 {
     put_text(out, key, name.bytes())
+}
+
+/// Appends a comma and a member that is a fixed text.
+#[tactic(auto, using(crate::proofs::Texts::word_name), unfolding(crate::specs::Members::leading))]
+pub(crate) fn put_word_behind(out: &mut Vec<u8>, key: Key, word: Word) -> Result<(), Memory>
+    ensures { Appended out.old out.new (leading (key_text key) (said word)) text_most result }
+{
+    put(out, b",")?;
+    put_key(out, key)?;
+    put_quoted(out, word.text().as_bytes())
 }

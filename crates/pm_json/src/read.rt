@@ -1,7 +1,8 @@
 //! What a line asks: its word, its head, and the row of its word.
 ghost use Rattle.std.specs.Prelude.{Result, ◌≡◌, None, Some, IfOk};
 ghost use Rattle.serde_json.specs.View.{view};
-ghost use Rattle.pm_model.specs.Asked.{asked, asked_by, asked_of, id_of, looking, request_of, with_head, worded};
+ghost use Rattle.pm_model.specs.Forms.{looking};
+ghost use Rattle.pm_model.specs.Asked.{asked, asked_by, asked_of, id_of, request_of, with_head, worded};
 ghost use Rattle.pm_model.specs.declared.requests.Body.{Body};
 ghost use Rattle.pm_model.specs.declared.lines.BadLine.{BadLine};
 ghost use Rattle.pm_json.specs.Reads.{Reads};

@@ -3,7 +3,7 @@ ghost use Rattle.std.specs.Prelude.{◌≡◌, IfOk, map, option_and_then};
 ghost use Rattle.serde_json.specs.Find.{as_str};
 ghost use Rattle.serde_json.specs.View.{view, items_view};
 ghost use Rattle.pm_model.specs.Actions.{response_refusal};
-ghost use Rattle.pm_model.specs.Asked.{list_of, looking, mode_form};
+ghost use Rattle.pm_model.specs.Forms.{list_of, looking, mode_form};
 ghost use Rattle.pm_model.specs.ResponseForms.{act_as_set, act_of, action_form, as_set, assign_act, associate_act, both_at, create_act, deassign_act, delete_act, dissociate_act, do_form, formed, if_allowed, lift_act, prohibit_act, rights_listed, subject_term, term_sets, terms_form};
 
 use crate::forms::{MOST_IN_SETS, distinct, list, listed, mode, name, subject};
@@ -269,7 +269,7 @@ fn within_limits(alloc: Global, actions: ActionList) -> Result<Option<Response>,
 /// listed twice counts twice. Each action is an object with the word of a command, what the command takes, and
 /// where it has guards a list of them at `if`. What stands at other keys is ignored. The lists of rights that
 /// come out are sets.
-pub fn response(alloc: Global, value: &Value) -> Result<Option<Response>, Memory>
+pub(crate) fn response(alloc: Global, value: &Value) -> Result<Option<Response>, Memory>
     ensures { IfOk result (λ o. o ≡ do_form (view value.now)) }
 {
     let Some(items) = value.as_array() else {

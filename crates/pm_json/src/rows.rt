@@ -1,14 +1,17 @@
 //! A function for each row of the table of commands, and the row of a word.
 ghost use Rattle.std.specs.Prelude.{Result, ◌≡◌};
 ghost use Rattle.serde_json.specs.View.{view};
-ghost use Rattle.pm_model.specs.Asked.{access_of, admin_of, assign_of, associate_of, close_session_of, create_of, create_pc_of, deassign_of, define_right_of, delete_of, dissociate_of, end_process_of, ends_of, lift_of, looking, open_session_of, prohibit_of, row_of, start_process_of};
+ghost use Rattle.pm_model.specs.Forms.{looking};
+ghost use Rattle.pm_model.specs.Asked.{access_of, admin_of, assign_of, associate_of, close_session_of, create_of, create_pc_of, deassign_of, define_right_of, delete_of, dissociate_of, do_at, end_process_of, ends_of, lift_of, oblige_of, open_session_of, prohibit_of, row_of, start_process_of, when_at, withdraw_of};
 ghost use Rattle.pm_model.specs.declared.lines.BadLine.{BadLine};
 ghost use Rattle.pm_model.specs.declared.requests.Command.{Command};
 ghost use Rattle.pm_json.specs.Reads.{Reads, ReadsRow};
 
 use crate::errors::ReadError;
 use crate::forms::{mode_at, name_at, number_at, process, rights_at, sets, subject_at};
-use pm_model::{BadLine, Body, Command, Key, Kind, Name};
+use crate::responses::response;
+use crate::terms::when;
+use pm_model::{Awaited, BadLine, Body, Command, Key, Kind, Name, Response};
 use serde_json::Value;
 use std::alloc::Global;
 
@@ -134,6 +137,47 @@ fn define_right(value: &Value) -> Result<Command, BadLine>
     Ok(Command::DefineRight { name })
 }
 
+fn when_at(alloc: Global, value: &Value) -> Result<Awaited, ReadError>
+    ensures { Reads result (when_at (looking (view value.now))) }
+{
+    match value.get(Key::When.text()).and_then(when) {
+        None => Err(ReadError::Bad(BadLine::BadField(Key::When))),
+        Some(when) => Ok(Awaited::new(alloc, when)?),
+    }
+}
+
+fn do_at(alloc: Global, value: &Value) -> Result<Response, ReadError>
+    ensures { Reads result (do_at (looking (view value.now))) }
+{
+    let Some(found) = value.get(Key::Do.text()) else {
+        return Err(ReadError::Bad(BadLine::BadField(Key::Do)));
+    };
+    match response(alloc, found)? {
+        None => Err(ReadError::Bad(BadLine::BadField(Key::Do))),
+        Some(response) => Ok(response),
+    }
+}
+
+fn oblige(alloc: Global, value: &Value) -> Result<Command, ReadError>
+    ensures { Reads result (oblige_of (looking (view value.now))) }
+{
+    let name = name_at(Key::Name, value)?;
+    let when = when_at(alloc, value)?;
+    let response = do_at(alloc, value)?;
+    Ok(Command::Oblige {
+        name,
+        when,
+        response,
+    })
+}
+
+fn withdraw(value: &Value) -> Result<Command, BadLine>
+    ensures { result ≡ withdraw_of (looking (view value.now)) }
+{
+    let name = name_at(Key::Name, value)?;
+    Ok(Command::Withdraw { name })
+}
+
 fn access(value: &Value) -> Result<Body, ReadError>
     ensures { Reads result (access_of (looking (view value.now))) }
 {
@@ -189,6 +233,8 @@ pub(crate) fn row(alloc: Global, word: &str, value: &Value) -> Option<Result<Bod
         "prohibit" => Some(admin(prohibit(alloc, value), value)),
         "lift" => Some(plain_admin(lift(value), value)),
         "define_right" => Some(plain_admin(define_right(value), value)),
+        "oblige" => Some(admin(oblige(alloc, value), value)),
+        "withdraw" => Some(plain_admin(withdraw(value), value)),
         "access" => Some(access(value)),
         _ => None,
     }

@@ -1,7 +1,7 @@
 //! Forms of an obligation's line: the events that it waits for, what stands for a name, and guards.
 ghost use Rattle.std.specs.Prelude.{◌≡◌, IfOk, option_and_then, option_map};
 ghost use Rattle.serde_json.specs.View.{view, items_view};
-ghost use Rattle.pm_model.specs.Asked.{if_name, looking};
+ghost use Rattle.pm_model.specs.Forms.{if_name, looking};
 ghost use Rattle.pm_model.specs.ResponseForms.{event_process_of, formed, given_form, given_of, guard_form, guard_of, guards_if, name_if, process_form, term_at, term_form, term_of, when_form, within_of};
 ghost use Rattle.pm_model.specs.declared.actions.Term.TheVariants.{Named};
 
@@ -24,7 +24,7 @@ fn name_if(found: Option<&Value>) -> Option<Option<Name>>
 
 /// Which events an obligation waits for, as a line gives it: an object with the name of an operation at
 /// `on`, and a name at `user` and at `target` where they are there. What stands at other keys is ignored.
-pub fn when(value: &Value) -> Option<When>
+pub(crate) fn when(value: &Value) -> Option<When>
     ensures { result ≡ when_form (view value.now) }
 {
     let on = value.get(Key::On.text()).and_then(name)?;

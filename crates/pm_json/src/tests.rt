@@ -1,4 +1,5 @@
 //! What lines ask, and the lines of replies.
+mod obliging;
 mod printing;
 mod reading;
 mod responding;

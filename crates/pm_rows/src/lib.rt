@@ -10,6 +10,7 @@ ghost use Rattle.pm_rows.specs.Histories.{two_entries, after_two, late_assignmen
 ghost use Rattle.pm_rows.specs.Rows.{Hold, rows};
 ghost use Rattle.pm_rows.specs.Denials.{denial_rows};
 ghost use Rattle.pm_rows.specs.Forms.{form_rows};
+ghost use Rattle.pm_rows.specs.Obligations.{obligation_rows};
 ghost use Rattle.pm_rows.specs.Responses.{Responds, Awaits, responses, awaited};
 ghost use Rattle.pm_rows.specs.Cases.{kinds, pairs_of, assigned_kinds, associated_kinds, ranges, Covers, bytes_from, name_bytes, IsCutAt};
 
@@ -26,6 +27,11 @@ pub fn denials_hold()
 /// They give them in the rows on the forms of lines.
 pub fn forms_hold()
     ensures { Hold form_rows }
+{}
+
+/// They give them in the rows on obligations.
+pub fn obligations_hold()
+    ensures { Hold obligation_rows }
 {}
 
 /// What the responses of obligations read as, and what they wait for.

@@ -116,51 +116,84 @@ fn prints(
     Ok(())
 }
 
-const DONE: [(Option<u64>, u64, Shown, &str); 5] = [
+const DONE: [(Option<u64>, u64, u32, Shown, &str); 7] = [
     (
         Some(1),
         18446744073709551615,
+        0,
         Shown::Nothing,
         r#"{"id":1,"ok":"done","v":18446744073709551615}"#,
     ),
-    (None, 0, Shown::Nothing, r#"{"ok":"done","v":0}"#),
+    (None, 0, 0, Shown::Nothing, r#"{"ok":"done","v":0}"#),
     (
         None,
         8,
+        0,
         Shown::Session(1),
         r#"{"ok":"done","session":1,"v":8}"#,
     ),
     (
         None,
         9,
+        0,
         Shown::Process(1),
         r#"{"ok":"done","process":1,"v":9}"#,
     ),
     (
         Some(7),
         10,
+        0,
         Shown::Process(4294967295),
         r#"{"id":7,"ok":"done","process":4294967295,"v":10}"#,
+    ),
+    (
+        None,
+        14,
+        1,
+        Shown::Session(3),
+        r#"{"fired":1,"ok":"done","session":3,"v":14}"#,
+    ),
+    (
+        Some(4),
+        15,
+        4294967295,
+        Shown::Nothing,
+        r#"{"fired":4294967295,"id":4,"ok":"done","v":15}"#,
     ),
 ];
 
 #[test]
 fn what_is_made_has_lines(rt: HostRuntime) -> Result<(), Fail> {
-    for (id, version, shown, line) in &DONE {
-        prints(&rt, *id, *version, &Reply::Done { shown: *shown }, line)?;
+    for (id, version, fired, shown, line) in &DONE {
+        let done = Reply::Done {
+            fired: *fired,
+            shown: *shown,
+        };
+        prints(&rt, *id, *version, &done, line)?;
+    }
+    Ok(())
+}
+
+const GRANTED: [(Option<u64>, u32, &str); 3] = [
+    (Some(4), 0, r#"{"id":4,"ok":"granted","v":15}"#),
+    (None, 1, r#"{"fired":1,"ok":"granted","v":15}"#),
+    (
+        Some(0),
+        1024,
+        r#"{"fired":1024,"id":0,"ok":"granted","v":15}"#,
+    ),
+];
+
+#[test]
+fn grants_have_lines(rt: HostRuntime) -> Result<(), Fail> {
+    for (id, fired, line) in &GRANTED {
+        prints(&rt, *id, 15, &Reply::Granted { fired: *fired }, line)?;
     }
     Ok(())
 }
 
 #[test]
 fn replies_have_lines(rt: HostRuntime) -> Result<(), Fail> {
-    prints(
-        &rt,
-        Some(4),
-        11,
-        &Reply::Granted,
-        r#"{"id":4,"ok":"granted","v":11}"#,
-    )?;
     prints(
         &rt,
         Some(2),
@@ -258,5 +291,68 @@ fn denials_have_lines(rt: HostRuntime) -> Result<(), Fail> {
         14,
         &Reply::Refused(barred),
         r#"{"id":8,"no":"denied","prohibition":"lock","right":"read","target":"memo","v":14}"#,
+    )
+}
+
+fn response_refused(obligation: Name, why: Refusal) -> Reply {
+    Reply::ResponseRefused {
+        obligation,
+        action: 2,
+        why,
+    }
+}
+
+#[test]
+fn refused_responses_tell_words(rt: HostRuntime) -> Result<(), Fail> {
+    let name = Name::new(b"watch").ok_or("a name")?;
+    let read = denied(b"read", 6, Reason::Class(ElementId(0)))?;
+    let unknown = Refusal::UnknownName { name };
+    let refusals = [
+        (
+            response_refused(name, Refusal::UnknownProcess),
+            "unknown_process",
+        ),
+        (
+            response_refused(name, Refusal::UnknownSession),
+            "unknown_session",
+        ),
+        (response_refused(name, unknown), "unknown_name"),
+        (response_refused(name, read), "denied"),
+        (response_refused(name, Refusal::BadKinds), "bad_kinds"),
+        (response_refused(name, Refusal::NameTaken), "name_taken"),
+        (response_refused(name, Refusal::Already), "already"),
+        (response_refused(name, Refusal::Absent), "absent"),
+        (response_refused(name, Refusal::Cycle), "cycle"),
+        (response_refused(name, Refusal::Occupied), "occupied"),
+        (response_refused(name, Refusal::InUse), "in_use"),
+        (
+            response_refused(name, Refusal::LastContainer),
+            "last_container",
+        ),
+        (response_refused(name, Refusal::Builtin), "builtin"),
+        (response_refused(name, Refusal::EmptyRange), "empty_range"),
+        (
+            response_refused(name, Refusal::Full(Table::Elements)),
+            "full",
+        ),
+    ];
+    for (reply, word) in &refusals {
+        let line = format!(in rt.alloc();
+            r#"{{"action":2,"no":"response_refused","obligation":"watch","v":17,"why":"{word}"}}"#
+        )?;
+        prints(&rt, None, 17, reply, line.as_str())?;
+    }
+    Ok(())
+}
+
+#[test]
+fn refused_responses_have_ids(rt: HostRuntime) -> Result<(), Fail> {
+    let name = Name::new(b"watch").ok_or("a name")?;
+    prints(
+        &rt,
+        Some(9),
+        17,
+        &response_refused(name, Refusal::Cycle),
+        r#"{"action":2,"id":9,"no":"response_refused","obligation":"watch","v":17,"why":"cycle"}"#,
     )
 }

@@ -1,4 +1,5 @@
 //! Lines, and what they ask in words.
+use super::responding::{event_told, response_told};
 use crate::read_request;
 use pm_model::{Asked, Body, Command, Name, NameList, Request, Subject, What};
 use std::alloc::{AllocError, Global};
@@ -71,6 +72,16 @@ fn command_told(alloc: Global, command: &Command) -> Result<String, AllocError> 
         }
         Command::Lift { name } => format!(in alloc; "lift {}", shown(name)),
         Command::DefineRight { name } => format!(in alloc; "define_right {}", shown(name)),
+        Command::Oblige {
+            name,
+            when,
+            response,
+        } => {
+            let when = event_told(alloc, when.when())?;
+            let response = response_told(alloc, response)?;
+            format!(in alloc; "oblige {}: {when}: {response}", shown(name))
+        }
+        Command::Withdraw { name } => format!(in alloc; "withdraw {}", shown(name)),
     }
 }
 
@@ -254,7 +265,7 @@ const ASKED: [(&str, Option<u64>, &str); 44] = [
     (r#"{"cmd":"version"} x"#, None, "NotJson"),
 ];
 
-fn asks(
+pub(super) fn asks(
     rt: &(impl Abort + Alloc<A = Global>),
     line: &[u8],
     id: Option<u64>,
@@ -651,7 +662,7 @@ fn sets_have_32_names(rt: HostRuntime) -> Result<(), Fail> {
     Ok(())
 }
 
-const ADMINISTRATIVE: [&str; 13] = [
+const ADMINISTRATIVE: [&str; 15] = [
     "create_pc",
     "create_user",
     "create_ua",
@@ -665,6 +676,8 @@ const ADMINISTRATIVE: [&str; 13] = [
     "prohibit",
     "lift",
     "define_right",
+    "oblige",
+    "withdraw",
 ];
 
 // Members beside an administrative word, and what the line asks.

@@ -1,5 +1,6 @@
 //! Responses and what obligations wait for, and what they read as in words.
-use crate::{response, when};
+use crate::responses::response;
+use crate::terms::when;
 use pm_model::{
     Act, Action, Guard, Name, NameList, ProcessTerm, Response, Subject, Term, TermList, When,
 };
@@ -113,7 +114,7 @@ fn action_told(alloc: Global, action: &Action) -> Result<String, AllocError> {
 }
 
 // The actions, one behind another.
-fn response_told(alloc: Global, response: &Response) -> Result<String, AllocError> {
+pub(super) fn response_told(alloc: Global, response: &Response) -> Result<String, AllocError> {
     let mut told = String::new(alloc);
     for (i, action) in response.actions().as_slice().iter().enumerate() {
         if i > 0 {
@@ -456,13 +457,15 @@ fn name_told(name: &Option<Name>) -> &str {
     }
 }
 
+pub(super) fn event_told(alloc: Global, when: &When) -> Result<String, AllocError> {
+    let (user, target) = (name_told(&when.user), name_told(&when.target));
+    format!(in alloc; "{} by {user} on {target}", shown(&when.on))
+}
+
 fn when_told(alloc: Global, read: &Option<When>) -> Result<String, AllocError> {
     match read {
         None => String::from_str(alloc, "nothing"),
-        Some(when) => {
-            let (user, target) = (name_told(&when.user), name_told(&when.target));
-            format!(in alloc; "{} by {user} on {target}", shown(&when.on))
-        }
+        Some(when) => event_told(alloc, when),
     }
 }
 

@@ -1,5 +1,5 @@
 use Rattle.std.proofs.Common.{◌≡◌, take}
-use Rattle.pm_model.specs.Asked.{distinct}
+use Rattle.pm_model.specs.Forms.{distinct}
 use Rattle.pm_json.proofs.forms.distinct.Given as goal
 
 abbrev pub invariant-loop-name : goal.invariant-loop-name

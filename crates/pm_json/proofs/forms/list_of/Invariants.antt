@@ -1,6 +1,6 @@
 use Rattle.std.proofs.Common.{◌≡◌, drop}
 use Rattle.serde_json.specs.View.{items_view}
-use Rattle.pm_model.specs.Asked.{list_of}
+use Rattle.pm_model.specs.Forms.{list_of}
 use Rattle.pm_json.proofs.Items.{behind}
 use Rattle.pm_json.proofs.forms.list_of.Given as goal
 

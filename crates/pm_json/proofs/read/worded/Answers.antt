@@ -1,5 +1,6 @@
 use Rattle.serde_json.specs.View.{view}
-use Rattle.pm_model.specs.Asked.{looking, row_of}
+use Rattle.pm_model.specs.Forms.{looking}
+use Rattle.pm_model.specs.Asked.{row_of}
 use Rattle.pm_json.proofs.Asking.{head_reads}
 use Rattle.pm_json.proofs.read.worded.Goals as goal
 
