@@ -1,3 +1,4 @@
+pub mod Containing
 pub mod Resolved
 pub mod Rights
 pub mod Ruled

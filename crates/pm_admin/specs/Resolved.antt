@@ -1,7 +1,12 @@
 -- A look-up that may want memory beside.
-use Rattle.std.specs.Prelude.{◌≡◌, Bool, true, false, Result, Ok, Err}
+use Rattle.std.specs.Prelude.{◌≡◌, Bool, true, false, IfSome, Result, Ok, Err}
+use Rattle.pm_model.specs.State.{Graph}
+use Rattle.pm_model.specs.Formed.{IsLive, IsNamed}
+use Rattle.pm_model.specs.declared.obligations.Obligation.{Obligation}
+use Rattle.pm_model.specs.declared.requests.Change.{Change}
+use Rattle.pm_model.specs.declared.requests.Change.TheVariants as change
 use Rattle.pm_model.specs.declared.requests.Command.{Command}
-use Rattle.pm_model.specs.declared.requests.Command.TheVariants.{Prohibit}
+use Rattle.pm_model.specs.declared.requests.Command.TheVariants.{Prohibit, Oblige}
 use Rattle.pm_model.specs.declared.replies.Refusal.{Refusal}
 use Rattle.pm_model.specs.declared.replies.ChangeError.{ChangeError}
 use Rattle.pm_model.specs.declared.replies.ChangeError.TheVariants.{Refused, Memory}
@@ -12,7 +17,13 @@ Finds found (Ok a) = found ≡ Ok a
 Finds found (Err (Refused why)) = found ≡ Err why
 Finds found (Err Memory) = Unit {0}
 
--- the command makes a prohibition, whose sets have room of their own
-abbrev pub is_prohibit : Command → Bool
-is_prohibit (Prohibit name subject rights inc exc mode) = true
-is_prohibit _ = false
+-- the change that comes of the command holds lists of its own: the sets of a prohibition, or a response
+abbrev pub holds_lists : Command → Bool
+holds_lists (Prohibit name subject rights inc exc mode) = true
+holds_lists (Oblige name when response) = true
+holds_lists _ = false
+
+-- what the change names is live, whoever is to be the author
+abbrev pub IsFound : Graph → Change → Type 0
+IsFound G (change.Oblige o) = IfSome o.pattern.user (IsLive G.elements) × IfSome o.pattern.target (IsLive G.elements)
+IsFound G c = IsNamed G c

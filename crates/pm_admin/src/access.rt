@@ -1,13 +1,11 @@
 //! The ruling on an access.
 ghost use Rattle.std.specs.Prelude.{◌≡◌, ◌<◌, IfOk};
-ghost use Rattle.pm_model.specs.Answer.{acting, if_access, accessed, reply_or};
+ghost use Rattle.pm_model.specs.Answer.{acting, if_access, accessed, allowed_unless};
 ghost use Rattle.pm_model.specs.RightSet.{bit_named};
-ghost use Rattle.pm_model.specs.Formed.{IsLive};
-ghost use Rattle.pm_admin.specs.Ruled.{allowed_unless, reply_by};
+ghost use Rattle.pm_model.specs.Formed.{IsLive, IsUser};
 
 use crate::denials::denial;
 use crate::names::look_up;
-use crate::rulings::Ruling;
 use pm_model::{ElementId, Name, Reason, Refusal, is_access_right};
 use pm_state::Graph;
 
@@ -15,6 +13,7 @@ use pm_state::Graph;
 pub fn acting(graph: &Graph, process: u32) -> Result<ElementId, Refusal>
     ensures value { result ≡ acting graph.now process }
     ensures live { IfOk result (IsLive graph.now.elements) }
+    ensures user { IfOk result (IsUser graph.now.elements) }
 {
     graph.formed();
     match graph.procs().user_of(process) {
@@ -39,12 +38,17 @@ fn access_right(graph: &Graph, name: Name) -> Result<u8, Refusal>
     }
 }
 
-fn allowed_unless(right: Name, target: ElementId, denial: Option<Reason>) -> Ruling
-    ensures { result ≡ allowed_unless right target denial }
+fn allowed_unless(
+    right: Name,
+    target: ElementId,
+    denial: Option<Reason>,
+) -> Result<ElementId, Refusal>
+    ensures value { result ≡ allowed_unless right target denial }
+    ensures target { IfOk result (λ t. t ≡ target) }
 {
     match denial {
-        None => Ruling::Allowed,
-        Some(reason) => Ruling::Refused(Refusal::Denied {
+        None => Ok(target),
+        Some(reason) => Err(Refusal::Denied {
             right,
             target,
             reason,
@@ -52,26 +56,27 @@ fn allowed_unless(right: Name, target: ElementId, denial: Option<Reason>) -> Rul
     }
 }
 
-/// Whether the user and the process may use the right on the target: the right's name, which is one of
-/// an access right, and the target's name are looked up in this order; then comes the reason of a
-/// denial. It takes no memory.
+/// The target of an access, where the user and the process may use the right on it: the right's name,
+/// which is one of an access right, and the target's name are looked up in this order; then comes the
+/// reason of a denial. It takes no memory.
 pub fn authorise_access(
     graph: &Graph,
     user: ElementId,
     process: u32,
     right: Name,
     target: Name,
-) -> Ruling
+) -> Result<ElementId, Refusal>
     requires { IsLive graph.now.elements user }
-    ensures { reply_by result ≡ reply_or (accessed graph.now user process right target) }
+    ensures value { result ≡ accessed graph.now user process right target }
+    ensures live { IfOk result (IsLive graph.now.elements) }
 {
     let bit = match access_right(graph, right) {
         Ok(bit) => bit,
-        Err(why) => return Ruling::Refused(why),
+        Err(why) => return Err(why),
     };
     let element = match look_up(graph, target) {
         Ok(element) => element,
-        Err(why) => return Ruling::Refused(why),
+        Err(why) => return Err(why),
     };
     let reason = denial(graph, user, Some(process), bit, element);
     allowed_unless(right, element, reason)

@@ -3,7 +3,8 @@ ghost use Rattle.std.specs.Prelude.{◌≡◌, ◌<◌, [], ◌∷◌, map};
 ghost use Rattle.pm_model.specs.declared.elements.Kind.{Kind};
 ghost use Rattle.pm_model.specs.declared.requests.Change.TheVariants as change;
 ghost use Rattle.pm_model.specs.Authority.{first_denied, required, right_name, right_to_create, subject_element, to_prohibit_to};
-ghost use Rattle.pm_model.specs.Formed.{Each, IsLive, IsNamed, IsSubjectLive};
+ghost use Rattle.pm_model.specs.Formed.{Each, IsLive, IsSubjectLive};
+ghost use Rattle.pm_admin.specs.Resolved.{IsFound};
 
 use crate::denials::denial;
 use crate::obliging::{denied_oblige, denied_withdraw};
@@ -110,7 +111,7 @@ fn denied_on_places(
 }
 
 // The element that the subject means; where it is a process, the user for whom it acts.
-fn subject_element(graph: &Graph, subject: Subject<ElementId, u32>) -> ElementId
+pub(crate) fn subject_element(graph: &Graph, subject: Subject<ElementId, u32>) -> ElementId
     requires { IsSubjectLive graph.now.elements graph.now.procs subject }
     ensures value { result ≡ subject_element graph.now subject }
     ensures live { IsLive graph.now.elements result }
@@ -133,7 +134,7 @@ fn denied_prohibit(
     item: &Prohibition,
 ) -> Option<Refusal>
     requires user { IsLive graph.now.elements user }
-    requires named { IsNamed graph.now (change.Prohibit item.now) }
+    requires found { IsFound graph.now (change.Prohibit item.now) }
     ensures { result ≡ first_denied graph.now user process (required graph.now (change.Prohibit item.now)) }
 {
     let subject = subject_element(graph, item.subject);
@@ -150,7 +151,7 @@ fn denied_prohibit(
 
 fn denied_lift(graph: &Graph, user: ElementId, process: Option<u32>, index: u32) -> Option<Refusal>
     requires user { IsLive graph.now.elements user }
-    requires named { IsNamed graph.now (change.Lift index) }
+    requires found { IsFound graph.now (change.Lift index) }
     ensures { result ≡ first_denied graph.now user process (required graph.now (change.Lift index)) }
 {
     graph.formed();
@@ -167,7 +168,7 @@ pub(crate) fn denied_change(
     change: &Change,
 ) -> Option<Refusal>
     requires user { IsLive graph.now.elements user }
-    requires named { IsNamed graph.now change.now }
+    requires found { IsFound graph.now change.now }
     ensures { result ≡ first_denied graph.now user process (required graph.now change.now) }
 {
     graph.formed();

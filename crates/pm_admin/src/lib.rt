@@ -1,16 +1,23 @@
-//! Commands and accesses: what they name, and whether the user and the process may.
+//! Commands and accesses: what they name, whether the user and the process may, and the events that they
+//! raise.
 #![tactic(auto)]
 
 mod access;
 mod capabilities;
 mod denials;
+mod events;
+mod guards;
 mod names;
 mod obliging;
+mod operations;
+mod patterns;
 mod prohibiting;
 mod rulings;
 #[cfg(test)]
 mod tests;
 
 pub use access::{acting, authorise_access};
+pub use events::{names_in, patterns_live, raised};
+pub use guards::all_hold;
 pub use names::look_up;
 pub use rulings::{Ruling, authorise, permit};

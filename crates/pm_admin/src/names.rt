@@ -1,9 +1,11 @@
 //! A command's names as numbers.
 ghost use Rattle.std.specs.Prelude.{◌≡◌, ◌≢◌, Ok, Err, true};
 ghost use Rattle.pm_model.specs.Resolve.{look_up, look_up_both, look_up_rights, resolve};
-ghost use Rattle.pm_admin.specs.Resolved.{Finds, is_prohibit};
+ghost use Rattle.pm_model.specs.State.{root};
+ghost use Rattle.pm_admin.specs.Resolved.{Finds, holds_lists};
 ghost use Rattle.pm_admin.specs.Rights.{with_named};
 
+use crate::patterns::oblige;
 use crate::prohibiting::prohibit;
 use pm_model::{Change, ChangeError, Command, ElementId, Kind, Name, NameList, Refusal, Rights};
 use pm_state::Graph;
@@ -18,7 +20,11 @@ pub fn look_up(graph: &Graph, name: Name) -> Result<ElementId, Refusal>
     }
 }
 
-fn look_up_both(graph: &Graph, first: Name, second: Name) -> Result<(ElementId, ElementId), Refusal>
+pub(crate) fn look_up_both(
+    graph: &Graph,
+    first: Name,
+    second: Name,
+) -> Result<(ElementId, ElementId), Refusal>
     ensures { result ≡ look_up_both graph.now first second }
 {
     let x = match look_up(graph, first) {
@@ -58,8 +64,10 @@ pub(crate) fn look_up_rights(graph: &Graph, names: &NameList) -> Result<Rights, 
     found
 }
 
+// Of all commands but to oblige it makes no difference who gives them: so the contracts name the root user.
+
 fn associate(graph: &Graph, ua: Name, rights: &NameList, at: Name) -> Result<Change, Refusal>
-    ensures { result ≡ resolve graph.now (Command.Associate ua rights.now at) }
+    ensures { result ≡ resolve graph.now root (Command.Associate ua rights.now at) }
 {
     let ua = match look_up(graph, ua) {
         Ok(ua) => ua,
@@ -76,7 +84,7 @@ fn associate(graph: &Graph, ua: Name, rights: &NameList, at: Name) -> Result<Cha
 }
 
 fn create_pc(graph: &Graph, name: Name) -> Change
-    ensures { Ok result ≡ resolve graph.now (Command.CreatePc name) }
+    ensures { Ok result ≡ resolve graph.now root (Command.CreatePc name) }
 {
     Change::Create {
         id: graph.elements().unused(),
@@ -87,7 +95,7 @@ fn create_pc(graph: &Graph, name: Name) -> Change
 }
 
 fn create(graph: &Graph, kind: Kind, name: Name, into: Name) -> Result<Change, Refusal>
-    ensures { result ≡ resolve graph.now (Command.Create kind name into) }
+    ensures { result ≡ resolve graph.now root (Command.Create kind name into) }
 {
     match look_up(graph, into) {
         Ok(container) => Ok(Change::Create {
@@ -101,7 +109,7 @@ fn create(graph: &Graph, kind: Kind, name: Name, into: Name) -> Result<Change, R
 }
 
 fn delete(graph: &Graph, name: Name) -> Result<Change, Refusal>
-    ensures { result ≡ resolve graph.now (Command.Delete name) }
+    ensures { result ≡ resolve graph.now root (Command.Delete name) }
 {
     match look_up(graph, name) {
         Ok(id) => Ok(Change::Delete { id }),
@@ -110,7 +118,7 @@ fn delete(graph: &Graph, name: Name) -> Result<Change, Refusal>
 }
 
 fn assign(graph: &Graph, from: Name, to: Name) -> Result<Change, Refusal>
-    ensures { result ≡ resolve graph.now (Command.Assign from to) }
+    ensures { result ≡ resolve graph.now root (Command.Assign from to) }
 {
     match look_up_both(graph, from, to) {
         Ok((from, to)) => Ok(Change::Assign { from, to }),
@@ -119,7 +127,7 @@ fn assign(graph: &Graph, from: Name, to: Name) -> Result<Change, Refusal>
 }
 
 fn deassign(graph: &Graph, from: Name, to: Name) -> Result<Change, Refusal>
-    ensures { result ≡ resolve graph.now (Command.Deassign from to) }
+    ensures { result ≡ resolve graph.now root (Command.Deassign from to) }
 {
     match look_up_both(graph, from, to) {
         Ok((from, to)) => Ok(Change::Deassign { from, to }),
@@ -128,7 +136,7 @@ fn deassign(graph: &Graph, from: Name, to: Name) -> Result<Change, Refusal>
 }
 
 fn dissociate(graph: &Graph, ua: Name, at: Name) -> Result<Change, Refusal>
-    ensures { result ≡ resolve graph.now (Command.Dissociate ua at) }
+    ensures { result ≡ resolve graph.now root (Command.Dissociate ua at) }
 {
     match look_up_both(graph, ua, at) {
         Ok((ua, at)) => Ok(Change::Dissociate { ua, at }),
@@ -137,10 +145,19 @@ fn dissociate(graph: &Graph, ua: Name, at: Name) -> Result<Change, Refusal>
 }
 
 fn lift(graph: &Graph, name: Name) -> Result<Change, Refusal>
-    ensures { result ≡ resolve graph.now (Command.Lift name) }
+    ensures { result ≡ resolve graph.now root (Command.Lift name) }
 {
     match graph.deny().find(name) {
         Some(index) => Ok(Change::Lift { index }),
+        None => Err(Refusal::UnknownName { name }),
+    }
+}
+
+fn withdraw(graph: &Graph, name: Name) -> Result<Change, Refusal>
+    ensures { result ≡ resolve graph.now root (Command.Withdraw name) }
+{
+    match graph.obligations().find(name) {
+        Some(index) => Ok(Change::Withdraw { index }),
         None => Err(Refusal::UnknownName { name }),
     }
 }
@@ -156,11 +173,16 @@ fn found(change: Result<Change, Refusal>) -> Result<Change, ChangeError>
     }
 }
 
-/// The change that a command names in this graph, or the first name or number that is unknown there,
-/// in the order of the command's fields. Only the sets of a prohibition take memory.
-pub(crate) fn resolve(graph: &Graph, command: &Command) -> Result<Change, ChangeError>
-    ensures value { Finds (resolve graph.now command.now) result }
-    ensures free { result ≡ Err ChangeError.Memory → is_prohibit command.now ≡ true }
+/// The change that a user's command names in this graph, or the first name or number that is unknown
+/// there, in the order of the command's fields. Only the sets of a prohibition and a response
+/// take memory.
+pub(crate) fn resolve(
+    graph: &Graph,
+    user: ElementId,
+    command: &Command,
+) -> Result<Change, ChangeError>
+    ensures value { Finds (resolve graph.now user command.now) result }
+    ensures free { result ≡ Err ChangeError.Memory → holds_lists command.now ≡ true }
 {
     match command {
         Command::CreatePc { name } => Ok(create_pc(graph, *name)),
@@ -180,5 +202,11 @@ pub(crate) fn resolve(graph: &Graph, command: &Command) -> Result<Change, Change
         } => prohibit(graph, *name, *subject, rights, inc, exc, *mode),
         Command::Lift { name } => found(lift(graph, *name)),
         Command::DefineRight { name } => Ok(Change::DefineRight { name: *name }),
+        Command::Oblige {
+            name,
+            when,
+            response,
+        } => oblige(graph, user, *name, when, response),
+        Command::Withdraw { name } => found(withdraw(graph, *name)),
     }
 }

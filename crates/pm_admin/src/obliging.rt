@@ -2,7 +2,8 @@
 ghost use Rattle.std.specs.Prelude.{◌≡◌, IfSome, unwrap_or};
 ghost use Rattle.pm_model.specs.declared.requests.Change.TheVariants as change;
 ghost use Rattle.pm_model.specs.Authority.{first_denied, pm, required, watched_at};
-ghost use Rattle.pm_model.specs.Formed.{IsLive, IsNamed};
+ghost use Rattle.pm_model.specs.Formed.{IsLive};
+ghost use Rattle.pm_admin.specs.Resolved.{IsFound};
 
 use crate::capabilities::{PM, denied, denied_pair};
 use pm_model::{Change, ElementId, Obligation, Pattern, Refusal};
@@ -12,7 +13,7 @@ use pm_state::Graph;
 const OBLIGE: (u8, u8) = (15, 15);
 
 // The target of a pattern; where it gives none, the policy class of the opening.
-fn target_element(graph: &Graph, target: Option<ElementId>) -> ElementId
+pub(crate) fn target_element(graph: &Graph, target: Option<ElementId>) -> ElementId
     requires { IfSome target (IsLive graph.now.elements) }
     ensures value { result ≡ unwrap_or target pm }
     ensures live { IsLive graph.now.elements result }
@@ -49,7 +50,7 @@ pub(crate) fn denied_oblige(
     item: &Obligation,
 ) -> Option<Refusal>
     requires user { IsLive graph.now.elements user }
-    requires named { IsNamed graph.now (change.Oblige item.now) }
+    requires found { IsFound graph.now (change.Oblige item.now) }
     ensures { result ≡ first_denied graph.now user process (required graph.now (change.Oblige item.now)) }
 {
     denied_watch(graph, user, process, &item.pattern)
@@ -62,7 +63,7 @@ pub(crate) fn denied_withdraw(
     index: u32,
 ) -> Option<Refusal>
     requires user { IsLive graph.now.elements user }
-    requires named { IsNamed graph.now (change.Withdraw index) }
+    requires found { IsFound graph.now (change.Withdraw index) }
     ensures { result ≡ first_denied graph.now user process (required graph.now (change.Withdraw index)) }
 {
     graph.formed();

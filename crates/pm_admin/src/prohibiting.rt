@@ -1,6 +1,7 @@
 //! The names and numbers of a prohibition that is to be made.
 ghost use Rattle.std.specs.Prelude.{◌≡◌};
 ghost use Rattle.pm_model.specs.Resolve.{look_up_all, look_up_process, look_up_subject, resolve};
+ghost use Rattle.pm_model.specs.State.{root};
 ghost use Rattle.pm_model.specs.declared.requests.Command.TheVariants as command;
 ghost use Rattle.pm_admin.specs.Resolved.{Finds};
 
@@ -70,7 +71,7 @@ pub(crate) fn prohibit(
     exc: &NameList,
     mode: Mode,
 ) -> Result<Change, ChangeError>
-    ensures { Finds (resolve graph.now (command.Prohibit name subject rights.now inc.now exc.now mode)) result }
+    ensures { Finds (resolve graph.now root (command.Prohibit name subject rights.now inc.now exc.now mode)) result }
 {
     let subject = match look_up_subject(graph, subject) {
         Ok(subject) => subject,

@@ -1,8 +1,8 @@
 //! The ruling on a command.
 ghost use Rattle.std.specs.Prelude.{◌≡◌, Err, IfOk, true};
 ghost use Rattle.pm_model.specs.Authority.{first_denied, required, ruling};
-ghost use Rattle.pm_model.specs.Formed.{IsLive, IsNamed};
-ghost use Rattle.pm_admin.specs.Resolved.{Finds, is_prohibit};
+ghost use Rattle.pm_model.specs.Formed.{IsLive, IsNamed, IsUser};
+ghost use Rattle.pm_admin.specs.Resolved.{Finds, IsFound, holds_lists};
 ghost use Rattle.pm_admin.specs.Ruled.{IsRuling};
 
 use crate::capabilities::denied_change;
@@ -27,7 +27,7 @@ fn first_denied(
     change: &Change,
 ) -> Option<Refusal>
     requires user { IsLive graph.now.elements user }
-    requires named { IsNamed graph.now change.now }
+    requires found { IsFound graph.now change.now }
     ensures { result ≡ first_denied graph.now user process (required graph.now change.now) }
 {
     if user.number() == ROOT {
@@ -38,7 +38,7 @@ fn first_denied(
 
 /// The change that the command names, where the user and the process have each capability that it asks
 /// for; else the first name or number that is unknown, or the first capability that is denied. Only
-/// the sets of a prohibition take memory.
+/// the sets of a prohibition and a response take memory.
 pub fn permit(
     graph: &Graph,
     user: ElementId,
@@ -47,10 +47,11 @@ pub fn permit(
 ) -> Result<Change, ChangeError>
     requires { IsLive graph.now.elements user }
     ensures value { Finds (ruling graph.now user process command.now) result }
-    ensures named { IfOk result (IsNamed graph.now) }
-    ensures free { result ≡ Err ChangeError.Memory → is_prohibit command.now ≡ true }
+    ensures named { IsUser graph.now.elements user → IfOk result (IsNamed graph.now) }
+    ensures free { result ≡ Err ChangeError.Memory → holds_lists command.now ≡ true }
 {
-    let change = match resolve(graph, command) {
+    graph.formed();
+    let change = match resolve(graph, user, command) {
         Ok(change) => change,
         Err(ChangeError::Refused(why)) => return Err(ChangeError::Refused(why)),
         Err(ChangeError::Memory) => return Err(ChangeError::Memory),

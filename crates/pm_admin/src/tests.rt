@@ -1,12 +1,18 @@
-//! Names and rulings in the opening state, with answers worked out by hand.
+//! Names, rulings, events and guards in small states, with answers worked out by hand.
 
-ghost use Rattle.pm_model.specs.Formed.{IsLive};
+ghost use Rattle.pm_model.specs.Formed.{IsLive, IsUser};
 
 use crate::{Ruling, acting, authorise, authorise_access, look_up, permit};
-use pm_model::{Change, Command, ElementId, Kind, Name, Reason, Refusal};
-use pm_state::{Graph, State};
+use pm_model::{Change, Command, ElementId, Kind, Memory, Name, NameList, Reason, Refusal};
+use pm_state::{Draft, Graph, State};
+use std::alloc::Global;
 use std::process::Abort;
 use std::test::Fail;
+
+mod accesses;
+mod events;
+mod guards;
+mod obliging;
 
 fn named(rt: &impl Abort, text: &str) -> Name {
     Name::new(text.as_bytes()).expect(rt, "a name")
@@ -14,10 +20,12 @@ fn named(rt: &impl Abort, text: &str) -> Name {
 
 // The opening has the class `pm` 0, the user attribute `pm_admins` 1 and the user `root` 2.
 fn root(rt: &impl Abort, graph: &Graph) -> ElementId
-    ensures { IsLive graph.now.elements result }
+    ensures live { IsLive graph.now.elements result }
+    ensures user { IsUser graph.now.elements result }
 {
     let id = ElementId(2);
-    assert!(rt; graph.elements().live(id));
+    let elements = graph.elements();
+    assert!(rt; elements.live(id) && matches!(elements.kind(id), Kind::User));
     id
 }
 
@@ -146,36 +154,32 @@ fn the_first_unknown_name_is_told(rt: HostRuntime) -> Result<(), Fail> {
     Ok(())
 }
 
-// The class by which root is denied the right on `pm`, or the refusal's word.
-fn refused_on_pm(rt: &impl Abort, graph: &Graph, right: Name) -> Result<u32, &'static str> {
-    let user = root(rt, graph);
-    let why = match authorise_access(graph, user, 0, right, named(rt, "pm")) {
-        Ruling::Refused(why) => why,
-        Ruling::Allowed => return Err("allowed"),
-    };
-    match denied_on_pm(&why, right) {
-        Some(class) => Ok(class),
-        None => Err(word(&why, right)),
+fn names(rt: &(impl Abort + Alloc<A = Global>), texts: &[&str]) -> Result<NameList, Memory> {
+    let mut list = NameList::new(rt.alloc());
+    for text in texts {
+        list.push(named(rt, text))?;
+    }
+    Ok(list)
+}
+
+// Root's command takes its effect in the draft.
+fn give(rt: &impl Abort, draft: &mut Draft, command: &Command) {
+    let user = root(rt, draft.graph());
+    match permit(draft.graph(), user, None, command) {
+        Ok(change) => assert!(rt; draft.change(&change).is_ok()),
+        Err(_) => assert!(rt; false),
     }
 }
 
-#[test]
-fn access_to_a_class_is_denied(rt: HostRuntime) -> Result<(), Fail> {
-    let state = State::opening(rt.alloc())?;
-    assert_eq!(rt;
-        refused_on_pm(&rt, state.graph(), named(&rt, "read")),
-        Ok(0)
-    );
-    Ok(())
-}
-
-#[test]
-fn an_administrative_right_is_none_of_an_access(rt: HostRuntime) -> Result<(), Fail> {
-    let state = State::opening(rt.alloc())?;
-    let right = named(&rt, "create_user");
-    assert_eq!(rt;
-        refused_on_pm(&rt, state.graph(), right),
-        Err("unknown_name")
-    );
-    Ok(())
+// The opening with the object attribute `files` 3 in `pm`.
+fn with_files(rt: &(impl Abort + Alloc<A = Global>)) -> Draft {
+    let state = State::opening(rt.alloc()).expect(rt, "memory");
+    let mut draft = state.draft().expect(rt, "memory");
+    let command = Command::Create {
+        kind: Kind::Oa,
+        name: named(rt, "files"),
+        into: named(rt, "pm"),
+    };
+    give(rt, &mut draft, &command);
+    draft
 }
