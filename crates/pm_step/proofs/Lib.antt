@@ -1,2 +1,4 @@
+mod Acting
+mod Placed
 mod Stepping
 mod Telling

@@ -1,5 +1,6 @@
 -- From a request that comes to a change to the machine's answer.
-use Rattle.std.proofs.Common.{◌≡◌, ◌+◌, ◌<◌, nat_le, Bool, true, false, ◌++◌, ◌∷◌, [], length, Option, Some, None, Ok, refl, sym, ◌∙◌, ap, arith}
+use Rattle.std.proofs.Common.{◌≡◌, ◌+◌, ◌<◌, ◌≤◌, nat_le, Bool, true, false, ◌++◌, ◌∷◌, [], length, Option, Some, None, refl, sym, ◌∙◌, ap, arith}
+use Rattle.std.proofs.lemmas.Bool.{le-leb}
 use Rattle.std.proofs.lemmas.Option.{same_Some}
 use Rattle.std.proofs.lemmas.List.{append-nil, length-append}
 use Rattle.pm_model.specs.State.{State, Graph}
@@ -16,19 +17,20 @@ use Rattle.pm_model.specs.declared.replies.Refusal.TheVariants.{Full}
 use Rattle.pm_model.specs.declared.replies.Table.TheVariants.{History}
 use Rattle.pm_model.specs.declared.replies.Reply.{Reply}
 use Rattle.pm_model.specs.declared.replies.Reply.TheVariants.{Done, Refused}
+use Rattle.pm_laws.proofs.Replayed.{bounded}
 use Rattle.pm_step.specs.Answered.{HasAnswered, IsStep}
 use Rattle.pm_step.specs.declared.steps.Stepped.TheVariants.{Accepted, Answered}
 
 -- what an accepted change is answered by
 abbrev given : State → Change → Graph → Answer
-given S c H = record { reply = Done (shown_of (made_by S.graph c)); next = Some (record { graph = H; version = S.version + 1 }) }
+given S c H = record { reply = Done 0 (shown_of (made_by S.graph c)); next = Some (record { graph = H; version = S.version + 1 }) }
 
 -- where the history is full, what would be accepted is refused
 full-is : (S : State) (r : Request) (c : Change) (H : Graph) → proposed S r ≡ given S c H → nat_le longest_history S.version ≡ true →
     answer S r ≡ told (Refused (Full History))
 full-is S r c H proposal full = rw (proposal, full) refl
 
-pub refused-is : (S : State) (r : Request) (c : Change) (why : Refusal) → proposed S r ≡ entered S (Ok c) → refusal_in S c ≡ Some why →
+pub refused-is : (S : State) (r : Request) (c : Change) (why : Refusal) → proposed S r ≡ entered S None c → refusal_in S c ≡ Some why →
     answer S r ≡ told (Refused why)
 refused-is S r c why proposal = of (refusal S.graph c) (nat_le longest_history S.version) refl refl where
   of : (o : Option Refusal) (full : Bool) → refusal S.graph c ≡ o → nat_le longest_history S.version ≡ full → refusal_in S c ≡ Some why →
@@ -44,7 +46,7 @@ refused-is S r c why proposal = of (refusal S.graph c) (nat_le longest_history S
   of None false is limit h = absurd (let none : None ≡ Some why = rw (is, limit) at h in cc)
 
 -- refused, and all as before
-pub refused-answered : (M N : Machine) (e : Entry) (c : Change) (why : Refusal) → proposed (state_of M) e.request ≡ entered (state_of M) (Ok c) →
+pub refused-answered : (M N : Machine) (e : Entry) (c : Change) (why : Refusal) → proposed (state_of M) e.request ≡ entered (state_of M) None c →
     refusal_in (state_of M) c ≡ Some why → N ≡ M → HasAnswered M N e (Refused why)
 refused-answered M N e c why proposal is same =
     let S = state_of M in
@@ -86,3 +88,35 @@ answered-on M N e reply h more = of (answer (state_of M) e.request).next refl wh
   of (Some S) is =
       let state : state_of N ≡ S = h.state ∙ rw is refl in
       (parts (answer (state_of M) e.request) reply (Some (state_of N)) h.reply (is ∙ ap Some (sym state)), h.history ∙ rw is refl)
+
+-- ---- answers in full
+
+-- a reply that leaves the state
+pub told-is : (S : State) (r : Request) (reply : Reply) → proposed S r ≡ told reply → answer S r ≡ told reply
+told-is S r reply proposal = ap (limited S) proposal
+
+-- an entry, where there is room for it
+pub entry-is : (S T : State) (r : Request) (reply : Reply) → proposed S r ≡ record { reply = reply; next = Some T } →
+    S.version < longest_history → answer S r ≡ record { reply = reply; next = Some T }
+entry-is S T r reply proposal room = bounded S r room ∙ proposal
+
+-- and where there is none
+pub full-entry-is : (S T : State) (r : Request) (reply : Reply) → proposed S r ≡ record { reply = reply; next = Some T } →
+    longest_history ≤ S.version → answer S r ≡ told (Refused (Full History))
+full-entry-is S T r reply proposal full = ap (limited S) proposal ∙ rw (le-leb longest_history S.version full) refl
+
+-- ---- a step taken
+
+pub step-answered : (M : Machine) (e : Entry) (reply : Reply) → IsStep M e (Answered reply) → HasAnswered M M e reply
+step-answered M e reply is = record {
+  reply = sym (ap (λ (a : Answer). a.reply) is);
+  state = sym (ap (after (state_of M)) is);
+  history = sym (append-nil M.history) ∙ sym (ap (λ (a : Answer). M.history ++ entries_of a.next e) is);
+}
+
+pub step-accepted : (M N : Machine) (e : Entry) (reply : Reply) → IsStep M e (Accepted N reply) → HasAnswered M N e reply
+step-accepted M N e reply is = record {
+  reply = sym (ap (λ (a : Answer). a.reply) is.0);
+  state = sym (ap (after (state_of M)) is.0);
+  history = is.1 ∙ sym (ap (λ (a : Answer). M.history ++ entries_of a.next e) is.0);
+}

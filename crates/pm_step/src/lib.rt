@@ -1,8 +1,10 @@
 //! One request is the machine's answer.
 #![tactic(auto)]
 
+mod entries;
 mod proposals;
 mod replies;
+mod responding;
 mod solo;
 mod steps;
 #[cfg(test)]

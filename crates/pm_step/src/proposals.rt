@@ -1,22 +1,36 @@
 //! What the machine makes of a request in a state, before anything is changed.
-ghost use Rattle.std.specs.Prelude.{◌≡◌, Ok, IfOk, Some, true};
-ghost use Rattle.pm_model.specs.Answer.{acting, accessed, entered, is_ahead, proposed, reply_or};
+ghost use Rattle.std.specs.Prelude.{◌≡◌, Ok, IfOk, Some, None, true};
+ghost use Rattle.pm_model.specs.Answer.{acting, administered, answer_access, entered, is_ahead, or_refused, proposed};
 ghost use Rattle.pm_model.specs.Authority.{ruling};
 ghost use Rattle.pm_model.specs.History.{state_of};
-ghost use Rattle.pm_model.specs.Results.{and_then};
 ghost use Rattle.pm_model.specs.Resolve.{look_up};
 ghost use Rattle.pm_step.specs.Asking.{only_asks, IsTold};
 ghost use Rattle.pm_step.specs.Proposed.{answer_by, IsPossible};
 
-use pm_admin::{Ruling, acting, authorise_access, look_up, permit};
-use pm_model::{Body, Change, ChangeError, Command, Memory, Name, Refusal, Reply, Request, Shown};
+use pm_admin::{acting, authorise_access, look_up, permit};
+use pm_model::{
+    Body, Change, ChangeError, Command, ElementId, Event, Memory, Name, Refusal, Reply, Request,
+    Shown,
+};
 use pm_state::State;
 
-/// A reply that leaves the state, or a change to be made as an entry.
+/// The user who gives a command, and the process.
+#[derive(Clone, Copy)]
+pub(crate) struct Actor {
+    pub(crate) user: ElementId,
+    pub(crate) process: u32,
+}
+
+/// What a request comes to, and who raises an event by it. The event of a change is left to be made, since
+/// mostly nothing waits for one.
 #[derive(Drop)]
 pub(crate) enum Proposal {
+    /// A reply that leaves the state.
     Told(Reply),
-    Change(Change),
+    /// A change to be made as an entry.
+    Change { change: Change, by: Option<Actor> },
+    /// An access that is granted, and its event.
+    Granted(Event),
 }
 
 fn is_ahead(after: Option<u64>, version: u64) -> bool
@@ -34,29 +48,36 @@ fn refused(why: Refusal) -> Proposal
     Proposal::Told(Reply::Refused(why))
 }
 
+// A change that no process gives.
+fn alone(change: Change) -> Proposal
+    ensures { result ≡ Proposal.Change change None }
+{
+    Proposal::Change { change, by: None }
+}
+
 fn open_session(state: &State, user: Name) -> Proposal
-    ensures answer { answer_by (state_of state.now) result ≡ entered (state_of state.now) (and_then (look_up state.now.graph user) (λ u. Ok (Change.OpenSession u))) }
+    ensures answer { answer_by (state_of state.now) result ≡ or_refused (look_up state.now.graph user) (λ u. entered (state_of state.now) None (Change.OpenSession u)) }
     ensures possible { IsPossible (state_of state.now) result }
 {
     state.given();
     let _version = state.version();
     match look_up(state.graph(), user) {
-        Ok(user) => Proposal::Change(Change::OpenSession { user }),
+        Ok(user) => alone(Change::OpenSession { user }),
         Err(why) => refused(why),
     }
 }
 
 fn start_process(state: &State, session: u32) -> Proposal
-    ensures answer { answer_by (state_of state.now) result ≡ entered (state_of state.now) (Ok (Change.StartProcess session)) }
+    ensures answer { answer_by (state_of state.now) result ≡ entered (state_of state.now) None (Change.StartProcess session) }
     ensures possible { IsPossible (state_of state.now) result }
 {
     state.given();
     let _version = state.version();
-    Proposal::Change(Change::StartProcess { session })
+    alone(Change::StartProcess { session })
 }
 
 fn administer(state: &State, process: u32, command: &Command) -> Result<Proposal, Memory>
-    ensures answer { IfOk result (λ p. answer_by (state_of state.now) p ≡ entered (state_of state.now) (and_then (acting state.now.graph process) (λ u. ruling state.now.graph u (Some process) command.now))) }
+    ensures answer { IfOk result (λ p. answer_by (state_of state.now) p ≡ or_refused (acting state.now.graph process) (λ u. administered (state_of state.now) u process (ruling state.now.graph u (Some process) command.now))) }
     ensures possible { IfOk result (IsPossible (state_of state.now)) }
 {
     let graph = state.graph();
@@ -65,27 +86,38 @@ fn administer(state: &State, process: u32, command: &Command) -> Result<Proposal
         Err(why) => return Ok(refused(why)),
     };
     match permit(graph, user, Some(process), command) {
-        Ok(change) => Ok(Proposal::Change(change)),
+        Ok(change) => Ok(Proposal::Change {
+            change,
+            by: Some(Actor { user, process }),
+        }),
         Err(ChangeError::Refused(why)) => Ok(refused(why)),
         Err(ChangeError::Memory) => Err(Memory),
     }
 }
 
-fn accessed(state: &State, process: u32, right: Name, target: Name) -> Reply
-    ensures { result ≡ reply_or (and_then (acting state.now.graph process) (λ u. accessed state.now.graph u process right target)) }
+fn access(state: &State, process: u32, right: Name, target: Name) -> Proposal
+    ensures answer { answer_by (state_of state.now) result ≡ or_refused (acting state.now.graph process) (λ u. answer_access (state_of state.now) u process right target) }
+    ensures possible { IsPossible (state_of state.now) result }
+    ensures told { IsTold (Ok result) }
 {
     let graph = state.graph();
     let user = match acting(graph, process) {
         Ok(user) => user,
-        Err(why) => return Reply::Refused(why),
+        Err(why) => return refused(why),
     };
     match authorise_access(graph, user, process, right, target) {
-        Ruling::Allowed => Reply::Granted,
-        Ruling::Refused(why) => Reply::Refused(why),
+        Ok(target) => Proposal::Granted(Event {
+            user,
+            process,
+            operation: right,
+            target,
+        }),
+        Err(why) => refused(why),
     }
 }
 
-/// What the machine makes of a request. Its only error is want of memory, for the sets of a prohibition.
+/// What the machine makes of a request. Its only error is want of memory, for the sets of a prohibition or
+/// a response.
 pub(crate) fn propose(state: &State, request: &Request) -> Result<Proposal, Memory>
     ensures answer { IfOk result (λ p. answer_by (state_of state.now) p ≡ proposed (state_of state.now) request.now) }
     ensures possible { IfOk result (IsPossible (state_of state.now)) }
@@ -96,21 +128,18 @@ pub(crate) fn propose(state: &State, request: &Request) -> Result<Proposal, Memo
     }
     match &request.body {
         Body::Version => Ok(Proposal::Told(Reply::Done {
+            fired: 0,
             shown: Shown::Nothing,
         })),
         Body::OpenSession { user } => Ok(open_session(state, *user)),
-        Body::CloseSession { session } => Ok(Proposal::Change(Change::CloseSession {
-            session: *session,
-        })),
+        Body::CloseSession { session } => Ok(alone(Change::CloseSession { session: *session })),
         Body::StartProcess { session } => Ok(start_process(state, *session)),
-        Body::EndProcess { process } => Ok(Proposal::Change(Change::EndProcess {
-            process: *process,
-        })),
+        Body::EndProcess { process } => Ok(alone(Change::EndProcess { process: *process })),
         Body::Access {
             process,
             right,
             target,
-        } => Ok(Proposal::Told(accessed(state, *process, *right, *target))),
+        } => Ok(access(state, *process, *right, *target)),
         Body::Admin { process, command } => administer(state, *process, command),
     }
 }

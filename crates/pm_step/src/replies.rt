@@ -14,9 +14,12 @@ fn shown(made: Made) -> Shown
     }
 }
 
-/// The reply to what has made this.
-pub(crate) fn done(made: Made) -> Reply
-    ensures { result ≡ Reply.Done (shown_of made) }
+/// The reply to what has made this, where so many obligations have responded.
+pub(crate) fn done(fired: u32, made: Made) -> Reply
+    ensures { result ≡ Reply.Done fired (shown_of made) }
 {
-    Reply::Done { shown: shown(made) }
+    Reply::Done {
+        fired,
+        shown: shown(made),
+    }
 }

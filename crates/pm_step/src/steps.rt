@@ -1,14 +1,20 @@
 //! One request as a step: in place, or from one state to the next.
-ghost use Rattle.std.specs.Prelude.{◌≡◌, Ok, IfOk, IsOk, OnErr, true};
-ghost use Rattle.pm_model.specs.Answer.{entered, proposed};
+ghost use Rattle.std.specs.Prelude.{◌≡◌, length, nat_lt, None, Some, IfOk, IsOk, OnErr, true};
+ghost use Rattle.pm_model.specs.Answer.{entered, granted, proposed};
+ghost use Rattle.pm_model.specs.Events.{responders};
 ghost use Rattle.pm_model.specs.Formed.{IsNamed};
 ghost use Rattle.pm_model.specs.History.{state_of};
+ghost use Rattle.pm_model.specs.declared.requests.Entry.{Entry};
+ghost use Rattle.pm_pattern.specs.Live.{IsEventLive};
+ghost use Rattle.pm_admin.specs.Containing.{relation_in};
 ghost use Rattle.pm_step.specs.Answered.{HasAnswered, IsStep};
-ghost use Rattle.pm_step.specs.Asking.{only_asks};
+ghost use Rattle.pm_step.specs.Asking.{only_asks, none_responded};
+ghost use Rattle.pm_step.specs.Proposed.{event_by, IsActorLive};
 
-use crate::proposals::{Proposal, propose};
+use crate::entries::{any_responds, awaited, respond_to_access, respond_to_change};
+use crate::proposals::{Actor, Proposal, propose};
 use crate::replies::done;
-use pm_model::{Change, ChangeError, Entry, Memory, Reply, Request};
+use pm_model::{Change, ChangeError, Entry, Event, Memory, Reply, Request};
 use pm_state::State;
 
 /// What a step comes to.
@@ -20,33 +26,121 @@ pub enum Stepped {
     Answered(Reply),
 }
 
-// Makes the change in place, or refuses it.
+// Makes the change in place, or refuses it. Nothing responds to it.
 fn enter(state: &mut State, change: &Change, entry: Entry) -> Result<Reply, Memory>
     requires named { IsNamed state.old.graph change.now }
-    requires asked { proposed (state_of state.old) entry.request ≡ entered (state_of state.old) (Ok change.now) }
+    requires asked { proposed (state_of state.old) entry.request ≡ entered (state_of state.old) None change.now }
     ensures ok { IfOk result (HasAnswered state.old state.new entry) }
     ensures err { OnErr result (state.new ≡ state.old) }
 {
     match state.enter(change, entry) {
-        Ok(made) => Ok(done(made)),
+        Ok(made) => Ok(done(0, made)),
         Err(ChangeError::Refused(why)) => Ok(Reply::Refused(why)),
         Err(ChangeError::Memory) => Err(Memory),
     }
 }
 
+// Takes a step from this state.
+fn go_on(state: &mut State, stepped: Stepped) -> Reply
+    ensures { (entry : Entry) → IsStep state.old entry stepped → HasAnswered state.old state.new entry result }
+{
+    match stepped {
+        Stepped::Accepted(next, reply) => {
+            *state = next;
+            reply
+        }
+        Stepped::Answered(reply) => reply,
+    }
+}
+
+// The answer to a request that comes to this change: in place, where nothing responds.
+fn enter_by(
+    state: &mut State,
+    change: &Change,
+    by: Option<Actor>,
+    entry: Entry,
+) -> Result<Reply, Memory>
+    requires named { IsNamed state.old.graph change.now }
+    requires by { IsActorLive state.old.graph by }
+    requires asked { proposed (state_of state.old) entry.request ≡ entered (state_of state.old) (event_by state.old.graph by change.now) change.now }
+    ensures ok { IfOk result (HasAnswered state.old state.new entry) }
+    ensures err { OnErr result (state.new ≡ state.old) }
+{
+    match awaited(state.graph(), by, change) {
+        None => enter(state, change, entry),
+        Some(event) => {
+            state.share()?;
+            let stepped = respond_to_change(state, change, &event, entry)?;
+            Ok(go_on(state, stepped))
+        }
+    }
+}
+
+// The answer to a request whose access is granted, and to which some obligation responds.
+fn enter_access(state: &mut State, event: &Event, entry: Entry) -> Result<Reply, Memory>
+    requires live { IsEventLive (relation_in state.old.graph) event.now }
+    requires some { nat_lt 0 (length (responders state.old.graph state.old.graph.obligations (Some event.now))) ≡ true }
+    requires asked { proposed (state_of state.old) entry.request ≡ granted (state_of state.old) event.now }
+    ensures ok { IfOk result (HasAnswered state.old state.new entry) }
+    ensures err { OnErr result (state.new ≡ state.old) }
+{
+    state.share()?;
+    let stepped = respond_to_access(state, event, entry)?;
+    Ok(go_on(state, stepped))
+}
+
+// The same, of this request from this seat with this number.
+fn enter_access_of(
+    state: &mut State,
+    event: &Event,
+    seat: u32,
+    nth: u64,
+    request: &Request,
+) -> Result<Reply, Memory>
+    requires live { IsEventLive (relation_in state.old.graph) event.now }
+    requires some { nat_lt 0 (length (responders state.old.graph state.old.graph.obligations (Some event.now))) ≡ true }
+    requires asked { proposed (state_of state.old) request.now ≡ granted (state_of state.old) event.now }
+    ensures ok { IfOk result (HasAnswered state.old state.new (record { seat = seat; nth = nth; request = request.now })) }
+    ensures err { OnErr result (state.new ≡ state.old) }
+{
+    let request = request.copy()?;
+    enter_access(state, event, Entry { seat, nth, request })
+}
+
+// The answer to a request whose access is granted: an entry exactly where some obligation responds.
+fn grant(
+    state: &mut State,
+    event: &Event,
+    seat: u32,
+    nth: u64,
+    request: &Request,
+) -> Result<Reply, Memory>
+    requires live { IsEventLive (relation_in state.old.graph) event.now }
+    requires asked { proposed (state_of state.old) request.now ≡ granted (state_of state.old) event.now }
+    ensures ok { IfOk result (HasAnswered state.old state.new (record { seat = seat; nth = nth; request = request.now })) }
+    ensures err { OnErr result (state.new ≡ state.old) }
+    ensures free { none_responded (granted (state_of state.old) event.now).reply ≡ true → IsOk result }
+{
+    if any_responds(state.graph(), event) {
+        return enter_access_of(state, event, seat, nth, request);
+    }
+    Ok(Reply::Granted { fired: 0 })
+}
+
 /// The machine's answer to a request in this state, which goes on by it. Where the request is accepted, the
 /// state has it as the entry of this seat with this number. Where it isn't, and on Memory, the state is as
-/// before; a request that only asks never answers Memory.
+/// before; a request that only asks never answers Memory where no obligation responds to it.
 pub fn advance(state: &mut State, seat: u32, nth: u64, request: &Request) -> Result<Reply, Memory>
     ensures ok { IfOk result (HasAnswered state.old state.new (record { seat = seat; nth = nth; request = request.now })) }
     ensures err { OnErr result (state.new ≡ state.old) }
-    ensures free { only_asks request.now.body ≡ true → IsOk result }
+    ensures free { only_asks request.now.body ≡ true → none_responded (proposed (state_of state.old) request.now).reply ≡ true → IsOk result }
 {
     match propose(state, request) {
         Ok(Proposal::Told(reply)) => Ok(reply),
-        Ok(Proposal::Change(change)) => {
+        Ok(Proposal::Granted(event)) => grant(state, &event, seat, nth, request),
+        Ok(Proposal::Change { change, by }) => {
             let request = request.copy()?;
-            enter(state, &change, Entry { seat, nth, request })
+            enter_by(state, &change, by, Entry { seat, nth, request })
         }
         Err(Memory) => Err(Memory),
     }

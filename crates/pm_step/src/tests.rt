@@ -1,15 +1,17 @@
 //! Requests from the opening state on, with answers worked out by hand.
 
 use crate::{Solo, Stepped, advance, step};
-use Told::{Ahead, Done, Granted, Process, Refused, Session};
+use Told::{Ahead, Done, Fired, Granted, Process, Refused, Session, Stopped};
 use pm_model::{
     Bars, Body, Command, Kind, Memory, Mode, Name, NameList, Reason, Refusal, Reply, Request,
-    Shown, Subject,
+    Shown, Subject, Table,
 };
 use pm_state::{Graph, State};
 use std::alloc::Global;
 use std::process::Abort;
 use std::test::Fail;
+
+mod responding;
 
 // What a reply tells.
 #[derive(Clone, Copy, Debug, PartialEq, Eq)]
@@ -18,8 +20,12 @@ enum Told {
     Session(u32),
     Process(u32),
     Granted,
+    // An entry to which so many obligations responded.
+    Fired(u32),
     Ahead,
     Refused(&'static str),
+    // The action of this number was refused.
+    Stopped(u32, &'static str),
 }
 
 fn word(why: &Refusal) -> &'static str {
@@ -38,21 +44,24 @@ fn word(why: &Refusal) -> &'static str {
         Refusal::NameTaken => "name_taken",
         Refusal::Occupied => "occupied",
         Refusal::Builtin => "builtin",
+        Refusal::Full(Table::History) => "full",
         _ => "another",
     }
 }
 
 fn what(reply: &Reply) -> Told {
     match reply {
-        Reply::Done { shown } => match shown {
+        Reply::Done { fired: 0, shown } => match shown {
             Shown::Nothing => Done,
             Shown::Session(number) => Session(*number),
             Shown::Process(number) => Process(*number),
         },
-        Reply::Granted => Granted,
+        Reply::Granted { fired: 0 } => Granted,
+        Reply::Done { fired, .. } | Reply::Granted { fired } => Fired(*fired),
         Reply::Bad(_) => Refused("bad"),
         Reply::Ahead => Ahead,
         Reply::Refused(why) => Refused(word(why)),
+        Reply::ResponseRefused { action, why, .. } => Stopped(*action, word(why)),
     }
 }
 

@@ -8,4 +8,5 @@ returns-in-Ok-clause-possible c =
     let given = c.given.ensures.sessions in
     let most = c.version-version.ensures.most in
     let is = c.version-version.ensures.version in
-    (looked_up-live c.args.state.now.graph c.args.user c.in-Ok.user (rw c.graph.ensures at found), omega (arith, given, most, is))
+    rw c.alone.ensures
+    ((looked_up-live c.args.state.now.graph c.args.user c.in-Ok.user (rw c.graph.ensures at found), omega (arith, given, most, is)), tt)

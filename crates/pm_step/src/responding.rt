@@ -1,0 +1,136 @@
+//! The responses of obligations, run in a draft.
+ghost use Rattle.std.specs.Prelude.{◌≡◌, ◌≤◌, length, Ok, OnOk, OnErr, IfOk, IfErr};
+ghost use Rattle.pm_model.specs.Formed.{IsUser};
+ghost use Rattle.pm_model.specs.Obligations.{max_obligations};
+ghost use Rattle.pm_model.specs.Responses.{acted, commanded, responses};
+ghost use Rattle.pm_runner.specs.Outcomes.{IsRefusal, IsStop};
+ghost use Rattle.pm_step.specs.Responders.{AreResponders, items_at};
+
+use pm_admin::{all_hold, permit};
+use pm_model::{Action, ChangeError, Command, ElementId, EventNames, Memory, Place};
+use pm_oblig::{Obligations, bind, fresh_name};
+use pm_runner::{ActError, Acts, PositionList, RunError, run_responses};
+use pm_state::Draft;
+use std::marker::Model;
+
+/// Has the command done, where the user may give it. No process gives it.
+fn give(draft: &mut Draft, author: ElementId, command: &Command) -> Result<(), ActError>
+    requires { IsUser draft.old.graph.elements author }
+    ensures ok { OnOk result (commanded draft.old.graph author command.now ≡ Ok draft.new.graph) }
+    ensures refused { IfErr result (IsRefusal (commanded draft.old.graph author command.now)) }
+    ensures err { OnErr result (draft.new ≡ draft.old) }
+    ensures history { draft.new.history ≡ draft.old.history }
+{
+    let change = match permit(draft.graph(), author, None, command) {
+        Ok(change) => change,
+        Err(ChangeError::Refused(why)) => return Err(ActError::Refused(why)),
+        Err(ChangeError::Memory) => return Err(ActError::Memory),
+    };
+    match draft.change(&change) {
+        Ok(_) => Ok(()),
+        Err(ChangeError::Refused(why)) => Err(ActError::Refused(why)),
+        Err(ChangeError::Memory) => Err(ActError::Memory),
+    }
+}
+
+/// Has the action done by the author's authority, where its guards hold.
+fn act_by(
+    draft: &mut Draft,
+    author: ElementId,
+    action: &Action,
+    names: &EventNames,
+    version: u64,
+    place: Place,
+) -> Result<(), ActError>
+    requires { IsUser draft.old.graph.elements author }
+    ensures ok { OnOk result (acted names.now version draft.old.graph author place action.now ≡ Ok draft.new.graph) }
+    ensures refused { IfErr result (IsRefusal (acted names.now version draft.old.graph author place action.now)) }
+    ensures err { OnErr result (draft.new ≡ draft.old) }
+    ensures history { draft.new.history ≡ draft.old.history }
+{
+    let fresh = fresh_name(place, version);
+    match all_hold(draft.graph(), names, fresh, action.guards.as_slice()) {
+        Ok(true) => {}
+        Ok(false) => return Ok(()),
+        Err(why) => return Err(ActError::Refused(why)),
+    }
+    match bind(action, names, place, version) {
+        Ok(command) => give(draft, author, &command),
+        Err(Memory) => Err(ActError::Memory),
+    }
+}
+
+/// A draft in which the obligations at these places respond. They stand in its graph, since no action
+/// withdraws one: so each author is a live user. Contracts see what they respond to, and the draft.
+#[derive(Drop)]
+struct Responding<'a> {
+    draft: Draft,
+    obligations: &'a Obligations,
+    places: &'a PositionList,
+    /// What the event's user and target were called before the request.
+    names: EventNames,
+    /// The version that the entry will have.
+    version: u64,
+}
+
+impl<'a> Model for Responding<'a> {
+    ghost use Rattle.pm_step.specs.Responders.{Underway, AreResponders, items_at};
+
+    ghost Value = { Underway };
+
+    ghost view = { λ s. record { occasion = record { names = s.names; version = s.version; obligations = items_at s.obligations.now.items s.places.now }; machine = s.draft } };
+
+    ghost invariant = { λ s. AreResponders s.obligations.now.items s.places.now s.draft.graph };
+}
+
+impl<'a> Acts for Responding<'a> {
+    ghost occasion = { λ s. s.occasion };
+
+    ghost graph = { λ s. s.machine.graph };
+
+    ghost history = { λ s. s.machine.history };
+
+    fn act(&mut self, place: Place) -> Result<(), ActError> {
+        self.draft.graph().formed();
+        let at = *self.places.at(place.obligation as usize - 1);
+        let obligation = self.obligations.at(at as usize);
+        let actions = obligation.response.actions();
+        let action = actions.at(place.action as usize - 1);
+        act_by(
+            &mut self.draft,
+            obligation.author,
+            action,
+            &self.names,
+            self.version,
+            place,
+        )
+    }
+}
+
+/// The draft once the obligations at these places have responded to an event of these names, by an entry
+/// that will have this version.
+pub(crate) fn respond(
+    draft: Draft,
+    obligations: &Obligations,
+    places: &PositionList,
+    names: EventNames,
+    version: u64,
+) -> Result<Draft, RunError>
+    requires standing { AreResponders obligations.now.items places.now draft.graph }
+    requires few { length places.now ≤ max_obligations }
+    ensures ok { IfOk result (λ d. responses names version draft.graph (items_at obligations.now.items places.now) ≡ Ok d.graph) }
+    ensures history { IfOk result (λ d. d.history ≡ draft.history) }
+    ensures stopped { IfErr result (IsStop (responses names version draft.graph (items_at obligations.now.items places.now))) }
+{
+    let mut acts = Responding {
+        draft,
+        obligations,
+        places,
+        names,
+        version,
+    };
+    match run_responses(&mut acts, obligations, places) {
+        Ok(()) => Ok(acts.draft),
+        Err(error) => Err(error),
+    }
+}
