@@ -2,7 +2,6 @@
 use Rattle.std.specs.Prelude.{◌≡◌, Bool, true, false, IfSome, Result, Ok, Err}
 use Rattle.pm_model.specs.State.{Graph}
 use Rattle.pm_model.specs.Formed.{IsLive, IsNamed}
-use Rattle.pm_model.specs.declared.obligations.Obligation.{Obligation}
 use Rattle.pm_model.specs.declared.requests.Change.{Change}
 use Rattle.pm_model.specs.declared.requests.Change.TheVariants as change
 use Rattle.pm_model.specs.declared.requests.Command.{Command}

@@ -18,7 +18,6 @@ use Rattle.pm_model.specs.declared.requests.Change.TheVariants as change
 use Rattle.pm_model.specs.declared.replies.Refusal.{Refusal}
 use Rattle.pm_model.specs.declared.replies.Refusal.TheVariants.{UnknownProcess, UnknownName, Denied, Full}
 use Rattle.pm_model.specs.declared.replies.Reason.{Reason}
-use Rattle.pm_model.specs.declared.replies.Shown.{Shown}
 use Rattle.pm_model.specs.declared.replies.Shown.TheVariants.{Nothing}
 use Rattle.pm_model.specs.Made.{made_by, shown_of}
 use Rattle.pm_model.specs.Sessions.{user_of}

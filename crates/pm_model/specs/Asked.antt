@@ -1,6 +1,6 @@
 -- What a line asks, by a look-up of its members. JSON itself is serde_json's word `read`; the forms and their order are
 -- the project's own.
-use Rattle.std.specs.Prelude.{ℕ, ◌+◌, ◌^◌, List, [], ◌∷◌, ◌&&◌, if◌then◌else◌, nat_lt, nat_le, length, filter, not, bytes_eq, Option, None, Some, option_and_then, option_map, Result, Ok, Err}
+use Rattle.std.specs.Prelude.{ℕ, List, if◌then◌else◌, bytes_eq, Option, None, Some, option_and_then, Result, Ok, Err}
 use Rattle.std.specs.Str.{is_utf8}
 use Rattle.serde_json.specs.Data.{Data}
 use Rattle.serde_json.specs.Read.{read}

@@ -1,6 +1,6 @@
 -- Well formed: what every reachable graph keeps. Source: the standard's constraints on assignments (of certain kinds,
 -- acyclic, each element leads to a policy class); names, limits and the opening elements are the project's own.
-use Rattle.std.specs.Prelude.{◌≡◌, ◌<◌, ◌^◌, ◌-◌, ℕ, ◌+◌, ◌&&◌, true, false, ◌≤◌, List, [], ◌∷◌, length, map, take, bytes_eq, IsSome, Option, Some, None, IfSome}
+use Rattle.std.specs.Prelude.{◌≡◌, ◌<◌, ◌^◌, ◌-◌, ℕ, ◌+◌, ◌&&◌, true, false, ◌≤◌, List, [], ◌∷◌, length, map, take, bytes_eq, IsSome, Some, None, IfSome}
 use Rattle.std.specs.List.{list_any}
 use Rattle.pm_model.specs.Containment.{contained, Leads}
 use Rattle.pm_model.specs.RightSet.{opening_rights, max_rights}

@@ -1,8 +1,8 @@
 -- The fields `when` and `do` of an obligation's line: which events it waits for, by names, and its response. Their forms
 -- are the project's own.
-use Rattle.std.specs.Prelude.{ℕ, Bool, true, false, if◌then◌else◌, ◌+◌, nat_le, List, [], ◌∷◌, length, map, codes, bytes_eq, Option, None, Some, option_and_then, option_map}
+use Rattle.std.specs.Prelude.{ℕ, Bool, true, false, if◌then◌else◌, ◌+◌, nat_le, List, [], length, map, codes, bytes_eq, Option, None, Some, option_and_then, option_map}
 use Rattle.serde_json.specs.Data.{Data, Items, no_items, item}
-use Rattle.serde_json.specs.Find.{get, as_str, as_array}
+use Rattle.serde_json.specs.Find.{as_str, as_array}
 use Rattle.pm_model.specs.Actions.{response_refusal}
 use Rattle.pm_model.specs.Forms.{distinct, if_name, list_of, listed_form, looking, mode_form, name_form, short_form, subject_by}
 use Rattle.pm_model.specs.Words.{key_text, word_text}

@@ -1,5 +1,5 @@
 -- What a request comes to before anything is changed.
-use Rattle.std.specs.Prelude.{ℕ, Option, None, Some, IfSome}
+use Rattle.std.specs.Prelude.{Option, None, Some, IfSome}
 use Rattle.pm_model.specs.State.{State, Graph}
 use Rattle.pm_model.specs.Answer.{Answer, told, entered, granted}
 use Rattle.pm_model.specs.Events.{raised}
