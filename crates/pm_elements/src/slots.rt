@@ -1,6 +1,6 @@
 //! The slots, one for each number: free, or with an element.
 
-ghost use Rattle.std.specs.Prelude.{◌≡◌, ◌==◌, ◌<◌, ◌≤◌, [], true, Some, None, IsOk, OnOk, is_some, length, slice_get};
+ghost use Rattle.std.specs.Prelude.{◌≡◌, ◌==◌, ◌<◌, ◌≤◌, [], true, Some, None, IfSome, IsOk, OnOk, is_some, length, slice_get};
 ghost use Rattle.std.specs.List.{list_any};
 ghost use Rattle.pm_model.specs.Effect.{max_elements};
 ghost use Rattle.pm_model.specs.Formed.{IsLive};
@@ -113,7 +113,8 @@ pub(crate) fn own_both(slots: &mut Slots, x: ElementId, y: ElementId) -> Result<
 #[tactic(auto, using(crate::proofs::Nexts::next_here, crate::proofs::Nexts::next_later, crate::proofs::Nexts::next_none))]
 pub(crate) fn next_taken(slots: &Slots, from: u32) -> Option<ElementId>
     requires { length slots.now.items ≤ max_elements }
-    ensures { result ≡ least_from (shown slots.now.items) from }
+    ensures number { result ≡ least_from (shown slots.now.items) from }
+    ensures within { IfSome result (λ n. n < length slots.now.items) }
 {
     for n in from as usize..slots.len() {
         if slots.at(n).is_some() {

@@ -284,9 +284,10 @@ impl Elements {
         Ok(())
     }
 
-    /// The least live number that is at least `from`.
+    /// The least live number that is at least `from`: below 16,384.
     pub fn next(&self, from: u32) -> Option<ElementId>
-        ensures { result ≡ least_from self.now.elements from }
+        ensures number { result ≡ least_from self.now.elements from }
+        ensures few { IfSome result (λ n. n < max_elements) }
     {
         next_taken(&self.slots, from)
     }
