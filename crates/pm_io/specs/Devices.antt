@@ -1,7 +1,10 @@
 -- What devices hold, as contracts see them, and how their counts go.
-use Rattle.std.specs.Prelude.{◌≡◌, ◌≤◌, ℕ, ◌==◌, ◌&&◌, List, if◌then◌else◌, length, nat_lt, take, Option, Result, Ok, Err, IsErr, MatchResult}
+use Rattle.std.specs.Prelude.{◌≡◌, ◌≤◌, ℕ, ◌==◌, ◌&&◌, List, if◌then◌else◌, length, nat_lt, take, Option, None, Result, Ok, Err, IsErr, MatchResult}
 use Rattle.std.specs.Io.KnownBytes.{Appends}
 use Rattle.pm_model.specs.Causes.{raised}
+use Rattle.pm_model.specs.declared.outside.KeepError.{KeepError}
+use Rattle.pm_model.specs.declared.outside.KeepError.TheVariants.{Failed, Memory}
+use Rattle.pm_model.specs.declared.requests.Entry.{Entry}
 
 -- the count of faults after a read: one more where it failed
 abbrev pub faults_read : {E : Type 0} → ℕ → Result ℕ E → ℕ
@@ -12,6 +15,12 @@ faults_read count (Err e) = raised count
 abbrev pub faults_written : {E : Type 0} → ℕ → Result ℕ E → List ℕ → ℕ
 faults_written count (Ok n) piece = if n == 0 && nat_lt 0 (length piece) then raised count else count
 faults_written count (Err e) piece = raised count
+
+-- the count of faults after a keeper's call: one more where it failed
+abbrev pub faults_kept : {T : Type 0} → ℕ → Result T KeepError → ℕ
+faults_kept count (Ok x) = count
+faults_kept count (Err Failed) = raised count
+faults_kept count (Err Memory) = count
 
 -- which calls are to fail, by their numbers from 1 on, and how many calls there were
 pub record Failures : Type 0 where
@@ -42,6 +51,16 @@ pub record FailingIntake : Type 0 where
   pub taken : List ℕ
   pub failures : Failures
   pub faults : ℕ
+
+-- a keeper in memory, of which calls may fail
+pub record FailingKeeper : Type 0 where
+  pub entries : List Entry
+  pub failures : Failures
+  pub faults : ℕ
+
+-- of a keeper that tells no entries
+abbrev pub untold : Option (List Entry)
+untold = None
 
 -- an adapter over a reader
 pub record CountedReader (R : Type 0) : Type 0 where

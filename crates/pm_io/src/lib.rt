@@ -1,14 +1,17 @@
-//! Sources and sinks: in memory, with calls that are to fail or with none, and over std's readers and writers.
+//! Sources, sinks and keepers: in memory, with calls that are to fail or with none; sources and sinks over std's readers and
+//! writers too.
 #![tactic(auto)]
 
 mod calm;
 mod counting;
 mod failing;
+mod keepers;
 mod memory;
 mod moving;
 mod streams;
 
 pub use calm::{CalmSink, CalmSource};
+pub use keepers::{MemKeep, NoKeep};
 pub use memory::{MemSink, MemSource};
 pub use streams::{StdSink, StdSource};
 

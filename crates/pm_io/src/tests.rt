@@ -1,7 +1,7 @@
 //! What reads and writes answer, one after another, with chosen calls failing.
 
-use crate::{CalmSink, CalmSource, MemSink, MemSource, StdSink, StdSource};
-use pm_model::{Failed, Sink, Source};
+use crate::{CalmSink, CalmSource, MemKeep, MemSink, MemSource, NoKeep, StdSink, StdSource};
+use pm_model::{Body, Entry, Failed, Keep, KeepError, Request, Sink, Source};
 use std::io;
 use std::io::{Cursor, Error, ErrorKind, Read, Write};
 use std::process::Abort;
@@ -137,4 +137,37 @@ fn a_writer_takes_what_its_sink_is_given(rt: HostRuntime) {
     let mut room = [0u8; 5];
     let mut full = StdSink::new(Cursor::new(room.as_mut_slice()));
     writes(&rt, &mut full, &[Ok(3), Ok(2), Ok(0)]);
+}
+
+// An entry of this number.
+fn entry(nth: u64) -> Entry {
+    let request = Request {
+        after: None,
+        body: Body::StartProcess { session: 0 },
+    };
+    Entry {
+        seat: 7,
+        nth,
+        request,
+    }
+}
+
+#[test]
+fn a_keeper_fails_where_it_is_told_to(rt: HostRuntime) -> Result<(), Fail> {
+    let mut keeper = MemKeep::new(rt.alloc(), &[3, 1])?;
+    let calls = [
+        (0, 1, Err(KeepError::Failed)),
+        (0, 1, Ok(())),
+        (1, 2, Err(KeepError::Failed)),
+        (1, 2, Ok(())),
+    ];
+    for (at, nth, answer) in &calls {
+        assert_eq!(rt; keeper.keep(*at, &entry(*nth)), *answer);
+    }
+    assert_eq!(rt; keeper.entries().len(), 2);
+    for (kept, nth) in keeper.entries().iter().zip([1, 2]) {
+        assert_eq!(rt; (kept.seat, kept.nth), (7, nth));
+    }
+    assert_eq!(rt; NoKeep.keep(5, &entry(9)), Ok(()));
+    Ok(())
 }

@@ -1,0 +1,4 @@
+pub mod Seats
+pub mod Transcripts
+pub mod Worlds
+pub mod Schedules
