@@ -1,2 +1,5 @@
 pub mod Computed
+pub mod Firsts
 pub mod FreshNames
+pub mod Knowing
+pub mod TargetWords

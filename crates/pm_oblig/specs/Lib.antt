@@ -1,2 +1,4 @@
+pub mod Awaited
+pub mod Kept
 pub mod Told
 pub mod Worked

@@ -1,8 +1,10 @@
 //! What is asked of one obligation, and a list of them sought through.
 
-ghost use Rattle.std.specs.Prelude.{◌≡◌, ◌||◌, ◌==◌, ◌<◌, true, Some, OnOk, OnErr, IfOk, IfSome, IsOk, length, slice_get};
+ghost use Rattle.std.specs.Prelude.{◌≡◌, ◌||◌, ◌==◌, ◌<◌, true, Some, List, OnOk, OnErr, IfOk, IfSome, IsOk, length, slice_get};
 ghost use Rattle.std.specs.List.{list_any, remove};
 ghost use Rattle.pm_model.specs.Obligations.{is_called, place_called, is_given, concerns};
+ghost use Rattle.pm_oblig.specs.declared.targets.Targets.{Targets};
+ghost use Rattle.pm_oblig.specs.Awaited.{AreKnown};
 
 use pm_model::{ElementId, Memory, Name, Obligation};
 use pm_pages::PageList;
@@ -84,7 +86,7 @@ pub(crate) fn is_named(items: &PageList<Obligation>, id: ElementId) -> bool
     false
 }
 
-/// Takes the obligation at a place out.
+/// Takes the obligation at a place out. What was known of the others still is.
 pub(crate) fn take(items: &mut PageList<Obligation>, i: usize) -> Result<Obligation, Memory>
     requires { i < length items.old.items }
     ensures item { IfOk result (λ item. slice_get items.old.items i ≡ Some item) }
@@ -92,6 +94,7 @@ pub(crate) fn take(items: &mut PageList<Obligation>, i: usize) -> Result<Obligat
     ensures alone { items.new.alone ≡ items.old.alone }
     ensures sure { items.old.alone ≡ true → IsOk result }
     ensures err { OnErr result (items.new.items ≡ items.old.items) }
+    ensures known { (known : List Targets) → AreKnown items.old.items known → AreKnown items.new.items known }
 {
     items.own_at(i)?;
     Ok(items.remove(i))

@@ -6,14 +6,17 @@ mod checks;
 mod errors;
 mod fresh;
 mod items;
+mod known;
 mod laws;
 mod table;
+mod targets;
 
 pub use binding::{bind, name_of};
 pub use errors::{ObligError, change_error};
 pub use fresh::fresh_name;
 pub use laws::responses_computed;
 pub use table::Obligations;
+pub use targets::{TargetWord, Targets};
 
 #[cfg(test)]
 mod tests;

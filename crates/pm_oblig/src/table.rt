@@ -1,15 +1,18 @@
 //! The list of obligations.
 
-ghost use Rattle.std.specs.Prelude.{◌≡◌, ◌≢◌, ◌<◌, ◌≤◌, [], ◌∷◌, ◌++◌, true, None, Some, OnOk, OnErr, IfOk, IfErr, IfSome, IsOk, length, slice_get, option_map};
+ghost use Rattle.std.specs.Prelude.{◌≡◌, ◌≢◌, ◌<◌, ◌≤◌, [], ◌∷◌, ◌++◌, true, None, Some, OnOk, OnErr, IfOk, IfErr, IfSome, IsOk, length, slice_get, take, drop, option_map};
 ghost use Rattle.std.specs.Option.{option_and_then, option_copied};
 ghost use Rattle.std.specs.List.{list_any, remove};
 ghost use Rattle.pm_model.specs.Results.{first_of};
 ghost use Rattle.pm_model.specs.Effect.{IsCause};
 ghost use Rattle.pm_model.specs.Obligations.{max_obligations, is_called, place_called, oblige_checks, concerns};
+ghost use Rattle.pm_oblig.specs.Awaited.{KnowsTargets};
 ghost use Rattle.pm_oblig.specs.Told.{told};
 
 use crate::errors::ObligError;
 use crate::items::{is_named, place, take};
+use crate::known;
+use crate::targets::Targets;
 use pm_model::{ElementId, Memory, Name, Obligation};
 use pm_pages::PageList;
 use std::alloc::Global;
@@ -23,29 +26,32 @@ const ROOM: usize = 16;
 #[derive(Drop)]
 pub struct Obligations {
     items: PageList<Obligation>,
+    known: PageList<Targets>,
 }
 
 impl Model for Obligations {
-    ghost use Rattle.std.specs.Prelude.{length, ◌≤◌};
-    ghost use Rattle.pm_model.specs.Obligations.{max_obligations};
     ghost use Rattle.pm_model.specs.declared.obligations.Obligation.{Obligation};
     ghost use Rattle.pm_pages.specs.Paged.{Paged};
 
     ghost Value = { Paged Obligation };
 
+    ghost use Rattle.pm_oblig.specs.Kept.{IsKept};
+
     ghost view = { λ t. t.items };
 
-    ghost invariant = { λ t. length t.items.items ≤ max_obligations };
+    ghost invariant = { IsKept };
 }
 
 impl Obligations {
     /// The list without obligations, which takes no memory.
+    #[tactic(auto, using(crate::proofs::Knowing::none_known))]
     pub fn new(alloc: Global) -> Obligations
         ensures items { result.items ≡ [] }
         ensures alone { result.alone ≡ true }
     {
         Obligations {
             items: PageList::new(alloc, ROOM),
+            known: PageList::new(alloc, ROOM),
         }
     }
 
@@ -72,6 +78,23 @@ impl Obligations {
         self.items.at(i)
     }
 
+    /// The obligations from a place on that stand together, so that a walk finds no place twice.
+    pub fn obligations_from(&self, i: usize) -> &[Obligation]
+        requires { i < length self.now.items }
+        ensures items { result.now ≡ take (length result.now) (drop i self.now.items) }
+        ensures some { 0 < length result.now }
+    {
+        self.items.run(i)
+    }
+
+    /// What the obligations that wait for an operation give as targets; None only where none waits for it. Each that
+    /// does is told of, and maybe some that were withdrawn. Looks at each operation that is waited for.
+    pub fn targets_of(&self, operation: Name) -> Option<&Targets>
+        ensures { KnowsTargets self.now.items operation (option_copied result) }
+    {
+        known::find(&self.known, operation)
+    }
+
     /// Makes an obligation, behind the others. `NameTaken` and `Full` come where `check_oblige` says so, `Memory` else.
     pub fn oblige(&mut self, item: Obligation) -> Result<(), ObligError>
         ensures fits { OnOk result (first_of (oblige_checks self.old.items item) ≡ None) }
@@ -81,7 +104,7 @@ impl Obligations {
         ensures err { OnErr result (self.new ≡ self.old) }
     {
         self.check_oblige(&item)?;
-        self.items.push(item).map_err(|_| ObligError::Memory)
+        known::push(&mut self.items, &mut self.known, item).map_err(|_| ObligError::Memory)
     }
 
     /// Takes the obligation of the name away and gives it. `Absent` comes where none has the name; the only other error
@@ -136,6 +159,7 @@ impl Obligations {
     {
         Ok(Obligations {
             items: self.items.copy()?,
+            known: self.known.copy()?,
         })
     }
 
@@ -144,6 +168,7 @@ impl Obligations {
     pub fn share(&mut self) -> Result<(), Memory>
         ensures { self.new.items ≡ self.old.items }
     {
+        self.known.share()?;
         self.items.share()
     }
 

@@ -1,3 +1,4 @@
+pub mod AnyMatch
 pub mod Places
 pub mod Steps
 pub mod WorkedTurns

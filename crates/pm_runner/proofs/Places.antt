@@ -1,19 +1,20 @@
 -- Lists of places, one more at a time.
-use Rattle.std.proofs.Common.{◌≡◌, ℕ, ◌+◌, ◌-◌, ◌<◌, ◌≤◌, ◌⊎◌, zero, suc, Bool, true, false, List, [], ◌∷◌, ◌++◌, length, take, drop, filter, Option, None, Some, option_map, slice_get, nat_lt, refl, sym, ◌∙◌, ap, All, add-one, inl, inr, arith}
+use Rattle.std.proofs.Common.{◌≡◌, ℕ, ◌+◌, ◌-◌, ◌<◌, ◌≤◌, ◌⊎◌, zero, suc, Bool, true, false, List, [], ◌∷◌, ◌++◌, length, take, filter, Option, None, Some, option_map, slice_get, refl, sym, ◌∙◌, ap, subst, All, add-one, inl, inr, arith}
 use Rattle.std.proofs.Math.Dec.{leb}
 use Rattle.std.proofs.Math.Seq.{take-suc}
 use Rattle.std.proofs.lemmas.Bool.{eqb-true, eqb-false}
 use Rattle.std.proofs.lemmas.Bool.Decides.{leb_tells}
 use Rattle.std.proofs.lemmas.Option.{slice_get_within, get_or_from_slice_get, slice_get-map, slice_get_cases}
 use Rattle.std.proofs.lemmas.List.{map-append, append-nil, length-append, length-map, length-take-le}
-use Rattle.std.proofs.lemmas.List.Elements.{All-nil, All-cons, All-append, filter-append}
+use Rattle.std.proofs.lemmas.List.Elements.{All-nil, All-cons, All-append, All-get_or, filter-append}
 use Rattle.std.proofs.lemmas.List.Edits.{remove-append_left, remove-append_right}
 use Rattle.std.specs.List.{remove}
-use Rattle.pm_model.proofs.Walks.{drop-item}
+use Rattle.pm_model.specs.Containment.{Relation}
 use Rattle.pm_model.specs.Obligations.{matching}
 use Rattle.pm_model.specs.declared.obligations.Obligation.{Obligation}
 use Rattle.pm_model.specs.declared.events.Event.{Event}
-use Rattle.pm_runner.specs.Standing.{StandAt, is_at, without}
+use Rattle.pm_pattern.specs.Live.{IsPatternLive}
+use Rattle.pm_runner.specs.Standing.{StandAt, ArePatternsLive, is_at, without}
 
 pub take-item : {X : Type 0} (xs : List X) (i : ℕ) (x : X) → slice_get xs i ≡ Some x → take (i + 1) xs ≡ take i xs ++ x ∷ []
 take-item xs i x is =
@@ -95,15 +96,10 @@ pub none_without : (below : ℕ → ℕ → Bool) (obligations : List Obligation
     matching below obligations event ≡ [] → matching below (remove obligations index) event ≡ []
 none_without below obligations event index none = filter-without _ obligations index none
 
--- some are left, where the first passes; else those after it decide
-pub some-pass : {X : Type 0} (p : X → Bool) (xs : List X) (i : ℕ) (x : X) (b : Bool) →
-    b ≡ nat_lt 0 (length (filter p (drop i xs))) → slice_get xs i ≡ Some x → true ≡ p x → b ≡ true
-some-pass p xs i x b rest is passes = rest ∙ rw (drop-item xs i x is, ← passes) (grind arith)
-
-pub none-yet : {X : Type 0} (p : X → Bool) (xs : List X) (i : ℕ) (x : X) (b : Bool) →
-    b ≡ nat_lt 0 (length (filter p (drop i xs))) → slice_get xs i ≡ Some x → false ≡ p x →
-    b ≡ nat_lt 0 (length (filter p (drop (i + 1) xs)))
-none-yet p xs i x b rest is fails = rest ∙ rw (drop-item xs i x is, ← fails) refl
+pub none-but : (below : ℕ → ℕ → Bool) (w : Option ℕ) (obligations : List Obligation) (event : Event) →
+    matching below obligations event ≡ [] → matching below (without w obligations) event ≡ []
+none-but below None obligations event none = none
+none-but below (Some index) obligations event none = none_without below obligations event index none
 
 -- ---- places and what stands there
 
@@ -123,3 +119,9 @@ as_many xs these places stand = sym (length-map places (slice_get xs)) ∙ ap le
 
 pub below-more : (n : ℕ) (places : List ℕ) (i : ℕ) → All (λ place. place < n) places → i < n → All (λ place. place < n) (places ++ i ∷ [])
 below-more n places i below more = All-append (λ place. place < n) places (i ∷ []) below (All-cons (λ place. place < n) i [] more (All-nil (λ place. place < n)))
+
+pub live-at : (relation : Relation) (obligations : List Obligation) (i : ℕ) (o : Obligation) → ArePatternsLive relation obligations →
+    slice_get obligations i ≡ Some o → IsPatternLive relation o.pattern
+live-at relation obligations i o live is =
+    let P : Obligation → Type 0 = λ (x : Obligation). IsPatternLive relation x.pattern in
+    subst P (get_or_from_slice_get obligations i o o is) (All-get_or P obligations i o (slice_get_within obligations i o is) live)

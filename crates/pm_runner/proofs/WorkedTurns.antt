@@ -1,5 +1,5 @@
--- On the worked occasion each action is passed by, but for the one that is tried.
-use Rattle.std.proofs.Common.{◌≡◌, ℕ, ◌-◌, ◌<◌, ◌==◌, ◌&&◌, Bool, true, false, List, Ok, option_map, slice_get, refl, zero, suc, arith}
+-- On the worked occasion each action is passed by.
+use Rattle.std.proofs.Common.{◌≡◌, ℕ, ◌-◌, List, Ok, option_map, slice_get, refl, zero, suc}
 use Rattle.std.specs.Option.{option_and_then}
 use Rattle.pm_model.specs.Containment.{contained}
 use Rattle.pm_model.specs.State.{opening_graph}
@@ -8,33 +8,19 @@ use Rattle.pm_model.specs.declared.obligations.Place.{Place}
 use Rattle.pm_runner.specs.Turns.{acted_at, acted_by}
 use Rattle.pm_runner.specs.Worked.{occasion_of}
 
-passed-one : (first second : List ℕ) (tried : Bool) (place : Place) → (tried ≡ true → ⊥) →
-    acted_by (occasion_of first second tried) opening_graph place
-    (option_and_then (λ (o : Obligation). option_map (λ a. (o, a)) (slice_get o.response 0)) (slice_get (occasion_of first second tried).obligations 1))
-    ≡ Ok opening_graph
-unfolding contained
-passed-one first second true place other = absurd (other refl)
-passed-one first second false place other = refl
-
 -- by their places from 0
-passed : (first second : List ℕ) (tried : Bool) (place : Place) (n m : ℕ) → (n ≡ 1 → m ≡ 0 → tried ≡ true → ⊥) →
-    acted_by (occasion_of first second tried) opening_graph place
-    (option_and_then (λ (o : Obligation). option_map (λ a. (o, a)) (slice_get o.response m)) (slice_get (occasion_of first second tried).obligations n))
+passed : (first second : List ℕ) (place : Place) (n m : ℕ) →
+    acted_by (occasion_of first second) opening_graph place
+    (option_and_then (λ (o : Obligation). option_map (λ a. (o, a)) (slice_get o.response m)) (slice_get (occasion_of first second).obligations n))
     ≡ Ok opening_graph
 unfolding contained
-passed first second tried place zero zero other = refl
-passed first second tried place zero (suc zero) other = refl
-passed first second tried place zero (suc (suc m)) other = refl
-passed first second tried place (suc zero) zero other = passed-one first second tried place (other refl refl)
-passed first second tried place (suc zero) (suc zero) other = refl
-passed first second tried place (suc zero) (suc (suc m)) other = refl
-passed first second tried place (suc (suc n)) m other = refl
+passed first second place zero zero = refl
+passed first second place zero (suc zero) = refl
+passed first second place zero (suc (suc m)) = refl
+passed first second place (suc zero) zero = refl
+passed first second place (suc zero) (suc zero) = refl
+passed first second place (suc zero) (suc (suc m)) = refl
+passed first second place (suc (suc n)) m = refl
 
-pub passed_by : (first second : List ℕ) (tried : Bool) (place : Place) → 0 < place.obligation → 0 < place.action →
-    (tried && place.obligation == 2 && place.action == 1) ≡ false →
-    acted_at (occasion_of first second tried) opening_graph place ≡ Ok opening_graph
-passed_by first second tried place o a other =
-    passed first second tried place (place.obligation - 1) (place.action - 1) (λ n m t.
-    let second : place.obligation ≡ 2 = omega arith in
-    let first : place.action ≡ 1 = omega arith in
-    let no : true ≡ false = rw (t, second, first) at other in cc)
+pub passed_by : (first second : List ℕ) (place : Place) → acted_at (occasion_of first second) opening_graph place ≡ Ok opening_graph
+passed_by first second place = passed first second place (place.obligation - 1) (place.action - 1)

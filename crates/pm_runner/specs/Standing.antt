@@ -2,7 +2,9 @@
 use Rattle.std.specs.Prelude.{◌≡◌, ℕ, ◌==◌, Bool, false, List, map, Option, None, Some, All, slice_get}
 use Rattle.std.specs.List.{remove}
 use Rattle.pm_model.specs.Containment.{Relation}
+use Rattle.pm_model.specs.Obligations.{matches}
 use Rattle.pm_model.specs.declared.obligations.Obligation.{Obligation}
+use Rattle.pm_model.specs.declared.events.Event.{Event}
 use Rattle.pm_pattern.specs.Live.{IsPatternLive}
 
 -- what stands at the places, counted from 0, are these, in this order
@@ -12,6 +14,10 @@ StandAt xs places these = map (slice_get xs) places ≡ map Some these
 -- the elements that the patterns give are live
 abbrev pub ArePatternsLive : Relation → List Obligation → Type 0
 ArePatternsLive relation obligations = All (λ (o : Obligation). IsPatternLive relation o.pattern) obligations
+
+-- the obligation matches the event
+abbrev pub is_match : (ℕ → ℕ → Bool) → Event → Obligation → Bool
+is_match below event o = matches below o.pattern event
 
 -- the place is the one that is left out
 abbrev pub is_at : Option ℕ → ℕ → Bool

@@ -1,15 +1,16 @@
 //! Which obligations match an event.
 
-ghost use Rattle.std.specs.Prelude.{◌≡◌, ◌<◌, ◌≤◌, ℕ, Bool, List, [], length, nat_lt, All, IfOk};
-ghost use Rattle.std.specs.List.{remove};
-ghost use Rattle.pm_model.specs.Obligations.{matching, max_obligations};
+ghost use Rattle.std.specs.Prelude.{◌≡◌, ◌<◌, ◌≤◌, ℕ, Bool, true, false, List, [], Option, length, nat_lt, All, IfOk, IsTrue};
+ghost use Rattle.std.specs.List.{list_any, remove};
+ghost use Rattle.pm_model.specs.Obligations.{is_in_given, matching, max_obligations};
 ghost use Rattle.pm_model.specs.declared.obligations.Obligation.{Obligation};
 ghost use Rattle.pm_model.specs.declared.events.Event.{Event};
+ghost use Rattle.pm_oblig.specs.Awaited.{in_words, has_target};
 ghost use Rattle.pm_pattern.specs.Live.{IsEventLive};
-ghost use Rattle.pm_runner.specs.Standing.{StandAt, ArePatternsLive, is_at, without};
+ghost use Rattle.pm_runner.specs.Standing.{StandAt, ArePatternsLive, is_at, is_match, without};
 
-use pm_model::{Event, ItemList, Memory, Reach};
-use pm_oblig::Obligations;
+use pm_model::{ElementId, Event, ItemList, Memory, Obligation, Reach};
+use pm_oblig::{Obligations, TargetWord, Targets};
 use pm_pattern::matches;
 use std::alloc::Global;
 
@@ -40,6 +41,9 @@ fn places_of<R: Reach>(
     ensures few { IfOk result (λ places. length places ≤ max_obligations) }
     ensures same { R.relation reach.new ≡ R.relation reach.old }
 {
+    if !may_match(obligations, event, reach) {
+        return Ok(PositionList::new(alloc));
+    }
     let mut places = PositionList::new(alloc);
     for i in 0..obligations.len() {
         if is_at(left_out, i) {
@@ -55,7 +59,8 @@ fn places_of<R: Reach>(
 
 /// The places of the obligations that match the event, in order of creation.
 ///
-/// Each obligation costs what its pattern does; memory is taken only for the list of places.
+/// Where none may match by operations and targets, no obligation is looked at. Else each costs what its pattern does.
+/// Memory is taken only for the list of places.
 pub fn matching<R: Reach>(
     alloc: Global,
     obligations: &Obligations,
@@ -90,19 +95,91 @@ pub fn matching_without<R: Reach>(
     places_of(alloc, obligations, event, reach, Some(index))
 }
 
+/// Whether the target is in one of the elements of the words.
+fn is_in_some<R: Reach>(words: &[TargetWord], target: ElementId, reach: &mut R) -> bool
+    requires { IsTrue ((R.relation reach.old).live target) }
+    ensures outside { result ≡ false → (n : ℕ) → in_words words.now n ≡ true → (R.relation reach.old).below target n ≡ false }
+    ensures same { R.relation reach.new ≡ R.relation reach.old }
+{
+    for word in words {
+        let above = reach.above(target, word.number);
+        if word.bits & above > 0 {
+            return true;
+        }
+    }
+    false
+}
+
+/// Whether the target is in one of those that the obligations of an operation give, or one of them gives none.
+fn may_wait<R: Reach>(targets: &Targets, target: ElementId, reach: &mut R) -> bool
+    requires { IsTrue ((R.relation reach.old).live target) }
+    ensures outside { result ≡ false → (given : Option ℕ) → has_target targets.now given ≡ true → is_in_given (R.relation reach.old).below given target ≡ false }
+    ensures same { R.relation reach.new ≡ R.relation reach.old }
+{
+    if targets.anywhere {
+        return true;
+    }
+    is_in_some(targets.words.as_slice(), target, reach)
+}
+
+/// Whether an obligation may match the event, as far as operations and targets tell. No obligation is looked at.
+fn may_match<R: Reach>(obligations: &Obligations, event: &Event, reach: &mut R) -> bool
+    requires { IsEventLive (R.relation reach.old) event.now }
+    ensures none { result ≡ false → matching (R.relation reach.old).below obligations.now.items event.now ≡ [] }
+    ensures same { R.relation reach.new ≡ R.relation reach.old }
+{
+    match obligations.targets_of(event.operation) {
+        Some(targets) => may_wait(targets, event.target, reach),
+        None => false,
+    }
+}
+
+/// Whether some obligation of a page matches the event.
+fn any_among<R: Reach>(items: &[Obligation], event: &Event, reach: &mut R) -> bool
+    requires patterns { ArePatternsLive (R.relation reach.old) items.now }
+    requires event { IsEventLive (R.relation reach.old) event.now }
+    ensures answer { result ≡ list_any (is_match (R.relation reach.old).below event.now) items.now }
+    ensures same { R.relation reach.new ≡ R.relation reach.old }
+{
+    for item in items {
+        if matches(&item.pattern, event, reach) {
+            return true;
+        }
+    }
+    false
+}
+
+/// Whether some obligation matches the event. Each is looked at, up to the first that does.
+fn any_of<R: Reach>(obligations: &Obligations, event: &Event, reach: &mut R) -> bool
+    requires patterns { ArePatternsLive (R.relation reach.old) obligations.now.items }
+    requires event { IsEventLive (R.relation reach.old) event.now }
+    ensures answer { result ≡ list_any (is_match (R.relation reach.old).below event.now) obligations.now.items }
+    ensures same { R.relation reach.new ≡ R.relation reach.old }
+{
+    let mut begin = 0;
+    while begin < obligations.len() {
+        let run = obligations.obligations_from(begin);
+        if any_among(run, event, reach) {
+            return true;
+        }
+        begin += run.len();
+    }
+    false
+}
+
 /// Whether some obligation matches the event. It takes no memory, and ends at the first that does.
+///
+/// Where none waits for the operation, or the target is in none of those that they give, no obligation is looked at.
 pub fn any_matches<R: Reach>(obligations: &Obligations, event: &Event, reach: &mut R) -> bool
     requires patterns { ArePatternsLive (R.relation reach.old) obligations.now.items }
     requires event { IsEventLive (R.relation reach.old) event.now }
     ensures answer { result ≡ nat_lt 0 (length (matching (R.relation reach.old).below obligations.now.items event.now)) }
     ensures same { R.relation reach.new ≡ R.relation reach.old }
 {
-    for i in 0..obligations.len() {
-        if matches(&obligations.at(i).pattern, event, reach) {
-            return true;
-        }
+    if !may_match(obligations, event, reach) {
+        return false;
     }
-    false
+    any_of(obligations, event, reach)
 }
 
 /// Where none of the obligations matches an event, none matches of those that one more is taken from.

@@ -1,8 +1,8 @@
-//! Obligations that match, by hand, and runs over a machine that only notes what it is asked.
+//! Obligations that match, by hand, and a run over a machine that only notes what it is asked.
 
 use pm_model::{
     Act, Action, ActionList, ElementId, Event, Guard, GuardList, Memory, Name, Obligation, Pattern,
-    Place, Reach, Refusal, Response, Term,
+    Place, Reach, Response, Term,
 };
 use pm_oblig::Obligations;
 use std::alloc::Global;

@@ -1,3 +1,4 @@
+use super::running::obligation_of;
 use super::*;
 use crate::{any_matches, matching, matching_without};
 
@@ -23,84 +24,39 @@ impl Reach for InTenth {
 /// A name, and a user and a target where they are given.
 type Row = (&'static str, Option<u32>, Option<u32>);
 
-fn waiting(rt: &(impl Abort + Alloc<A = Global>), row: &Row) -> Result<Obligation, Fail> {
-    let (text, user, target) = row;
-    let mut actions = ActionList::new(rt.alloc());
-    actions.push(Action {
-        guards: GuardList::new(rt.alloc()),
-        act: Act::Delete {
-            name: Term::EventTarget,
-        },
-    })?;
-    Ok(Obligation {
-        name: named(rt, text),
-        author: ElementId(2),
-        pattern: Pattern {
-            on: named(rt, "read"),
-            user: user.map(|number| ElementId(number)),
-            target: target.map(|number| ElementId(number)),
-        },
-        response: Response::new(actions).map_err(|_| "a response")?,
-    })
-}
+const ROWS: [Row; 4] = [
+    ("a", None, Some(5)),
+    ("b", Some(5), None),
+    ("c", Some(31), None),
+    ("d", None, Some(3)),
+];
 
-/// That user 31 reads 52.
-fn reading(rt: &impl Abort) -> Event {
+/// That user 31 does it to 52.
+fn event(operation: Name) -> Event {
     Event {
         user: ElementId(31),
         process: 3,
-        operation: named(rt, "read"),
+        operation,
         target: ElementId(52),
     }
 }
 
-fn list_of(rt: &(impl Abort + Alloc<A = Global>), rows: &[Row]) -> Result<Obligations, Fail> {
-    let mut list = Obligations::new(rt.alloc());
-    for row in rows {
-        list.oblige(waiting(rt, row)?)?;
-    }
-    Ok(list)
-}
-
-#[test]
-fn one_of_two_matches(rt: HostRuntime) -> Result<(), Fail> {
-    let event = reading(&rt);
-    let list = list_of(&rt, &[("a", Some(4), None), ("b", Some(3), Some(5))])?;
-    assert!(rt; any_matches(&list, &event, &mut InTenth));
-    let places = matching(rt.alloc(), &list, &event, &mut InTenth)?;
-    assert_eq!(rt; places.as_slice(), [1].as_slice());
-    Ok(())
-}
-
 #[test]
 fn some_match_in_their_order(rt: HostRuntime) -> Result<(), Fail> {
-    let event = reading(&rt);
-    let rows = [
-        ("a", None, Some(5)),
-        ("b", Some(5), None),
-        ("c", Some(31), None),
-        ("d", None, Some(3)),
-    ];
-    let list = list_of(&rt, &rows)?;
-    let places = matching(rt.alloc(), &list, &event, &mut InTenth)?;
+    let read = named(&rt, "read");
+    let mut list = Obligations::new(rt.alloc());
+    for (text, user, target) in &ROWS {
+        let mut item = obligation_of(rt.alloc(), named(&rt, text))?;
+        item.pattern.on = read;
+        item.pattern.user = user.map(|number| ElementId(number));
+        item.pattern.target = target.map(|number| ElementId(number));
+        list.oblige(item)?;
+    }
+    assert!(rt; any_matches(&list, &event(read), &mut InTenth));
+    assert!(rt; !any_matches(&list, &event(named(&rt, "write")), &mut InTenth));
+    let places = matching(rt.alloc(), &list, &event(read), &mut InTenth)?;
     assert_eq!(rt; places.as_slice(), [0, 2].as_slice());
-    let none = list_of(&rt, &[("a", Some(5), None), ("b", None, Some(3))])?;
-    assert!(rt; !any_matches(&none, &event, &mut InTenth));
-    Ok(())
-}
-
-#[test]
-fn one_of_those_that_match_is_left_out(rt: HostRuntime) -> Result<(), Fail> {
-    let event = reading(&rt);
-    let rows = [
-        ("a", None, Some(5)),
-        ("b", Some(5), None),
-        ("c", Some(31), None),
-    ];
-    let list = list_of(&rt, &rows)?;
-    let places = matching_without(rt.alloc(), &list, &event, &mut InTenth, 0)?;
+    let places = matching_without(rt.alloc(), &list, &event(read), &mut InTenth, 0)?;
     assert_eq!(rt; places.as_slice(), [2].as_slice());
-    let places = matching_without(rt.alloc(), &list, &event, &mut InTenth, 1)?;
-    assert_eq!(rt; places.as_slice(), [0, 2].as_slice());
     Ok(())
 }

@@ -1,4 +1,4 @@
-use Rattle.std.proofs.Common.{◌≡◌, ◌∙◌, sym}
+use Rattle.std.proofs.Common.{◌∙◌, sym}
 use Rattle.pm_model.specs.Obligations.{concerns}
 use Rattle.pm_pages.proofs.Runs.{any-in_run, any-behind_run}
 use Rattle.pm_oblig.proofs.items.is_named.Goals as goal

@@ -1,4 +1,3 @@
-use Rattle.std.proofs.Common.{◌≡◌}
 use Rattle.pm_model.specs.Obligations.{is_called}
 use Rattle.pm_pages.proofs.Runs.{place-in_run, place-behind_run}
 use Rattle.pm_oblig.proofs.items.place.Goals as goal

@@ -1,9 +1,19 @@
 -- The place at i comes to the others where the obligation matches and isn't left out.
-use Rattle.std.proofs.Common.{◌≡◌, ◌∙◌, sym, ◌∷◌, [], false, length-append, arith}
+use Rattle.std.proofs.Common.{◌≡◌, ◌∙◌, sym, ◌∷◌, [], false, refl, length-append, arith}
 use Rattle.pm_runner.specs.Standing.{is_at}
-use Rattle.pm_runner.proofs.Places.{one-passes, one-fails, one-left-out, below-more}
+use Rattle.pm_runner.proofs.Places.{one-passes, one-fails, none-but, live-at, below-more}
 use Rattle.pm_runner.proofs.matched.places_of.Goals as goal
 use Rattle.pm_runner.proofs.matched.places_of.Goals.{then-matches+in_ok-push, else-matches}
+
+pub returns-then-not-may_match-clause-places : goal.returns-then-not-may_match-clause-places
+returns-then-not-may_match-clause-places g c =
+    let none = none-but (g.R.Reach.relation c.args.reach.now).below c.args.left_out c.args.obligations.now.items c.args.event.now (c.if-not-may_match.ensures.none refl) in
+    rw (none, c.new.ensures) refl
+
+pub matches-requires-clause-pattern : goal.matches-requires-clause-pattern
+matches-requires-clause-pattern g c =
+    rw c.loop-i.invariant.same
+    (live-at (g.R.Reach.relation c.args.reach.now) c.args.obligations.now.items c.loop-i.i c.at.result.now c.requires.patterns c.at.ensures)
 
 pub loop-i-preserved : goal.loop-i-preserved
 loop-i-preserved g c =
