@@ -18,7 +18,10 @@ use thiserror::Error;
 mod tests;
 
 /// How many entries stand in a page.
-const ROOM: usize = 1024;
+const ROOM: usize = 256;
+
+/// After how many entries the pages are shared in any case.
+const SHARED: usize = 1024;
 
 /// Why an entry was not put into the history. The history is as before, and the entry is dropped.
 #[derive(Clone, Copy, Debug, PartialEq, Eq, Error)]
@@ -65,11 +68,11 @@ fn put(entries: &mut PageList<SharedEntry>, count: usize, entry: SharedEntry) ->
     entries.push(entry)
 }
 
-/// Lets copies share the pages where the last one is full.
+/// Lets copies share the pages after each so many entries, when all pages are full.
 fn share_full(entries: &mut PageList<SharedEntry>, count: usize) -> Result<(), Memory>
     ensures { entries.new.items ≡ entries.old.items }
 {
-    if count % ROOM == 0 {
+    if count % SHARED == 0 {
         return entries.share();
     }
     Ok(())
@@ -130,8 +133,8 @@ impl History {
 
     /// Puts an entry at the end. `Full` exactly where there are as many entries as the limit says; the
     /// only other error is `Memory`. It takes memory for the entry, now and then for more places, and
-    /// for up to 1,024 places where copies share the last page. A full page is shared from the next
-    /// push on.
+    /// for up to 256 places where copies share the last page. Of each 1,024 entries the pages are shared
+    /// from the next push on.
     pub fn push(&mut self, entry: Entry) -> Result<(), HistoryError>
         ensures room { OnOk result (length self.old.entries < self.old.limit) }
         ensures ok { OnOk result (self.new ≡ record self.old { entries = self.old.entries ++ entry ∷ [] }) }
@@ -159,7 +162,7 @@ impl History {
         self.count -= 1;
     }
 
-    /// Lets copies share all pages, so that a copy costs 8 bytes for each 1,024 entries. It takes
+    /// Lets copies share all pages, so that a copy costs 40 bytes for each 256 entries. It takes
     /// memory for each page that no copy shares. On Memory some pages may be shared.
     pub fn share(&mut self) -> Result<(), Memory>
         ensures { self.new ≡ self.old }
@@ -168,9 +171,9 @@ impl History {
     }
 
     /// The same history once more, with the same limit. It takes memory for the pages' places, and for
-    /// those of the last page's entries where no `share` came before, of 8 bytes each: full pages are
-    /// shared in any case. `Memory` comes where there is none, or where an entry or a page has as many
-    /// owners as can be counted.
+    /// those of the last entries where no `share` came before, of 8 bytes each: but for the last 1,024 at
+    /// most, pages are shared in any case. `Memory` comes where there is none, or where an entry or a page
+    /// has as many owners as can be counted.
     pub fn copy(&self) -> Result<History, Memory>
         ensures { IfOk result (λ same. same ≡ self.now) }
     {

@@ -132,7 +132,7 @@ fn history_of(alloc: Global, count: u64) -> Result<History, HistoryError> {
 
 #[test]
 fn copies_go_apart_across_the_end_of_a_page(rt: HostRuntime) -> Result<(), Fail> {
-    for count in [1023, 1024, 1025] {
+    for count in [255, 256, 257, 1023, 1024, 1025] {
         let mut history = history_of(rt.alloc(), count)?;
         history.share()?;
         let mut copy = history.copy()?;
