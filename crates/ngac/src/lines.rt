@@ -109,7 +109,8 @@ fn next_asked(alloc: Global, session: &mut Session) -> Result<Option<Asked>, Mem
     }
 }
 
-// With room for the reply there is no want of memory once the request was asked.
+// With room for the reply there is no want of memory once the request was asked, but for a review's list, which leaves
+// the state.
 fn answer(session: &mut Session, solo: &mut Solo, asked: Asked) -> Result<(), Memory>
     requires { length session.old.output + LONGEST_REPLY ≤ session.old.capacity }
     ensures output { OnOk result (session.new.output ≡ session.old.output ++ line_told asked.id (state_of solo.old) (answer_what (state_of solo.old) asked.what)) }

@@ -180,21 +180,6 @@ fn replies_to_a_piece_are_written_together(rt: HostRuntime) -> Result<(), Fail> 
     Ok(())
 }
 
-// Of 6,000 bytes of lines of three bytes the first read gives 4,096, and the second one fails.
-#[test]
-fn the_lines_of_a_first_piece_are_answered(rt: HostRuntime) -> Result<(), Fail> {
-    let alloc = rt.alloc();
-    let input = [b"{}\n".as_slice(); 2000];
-    let input = joined(alloc, &input)?;
-    let mut source = MemSource::new(alloc, &input, &[2])?;
-    let mut out = MemSink::new(alloc, ROOM, &[])?;
-    let status = run_lines(alloc, LIMIT, &mut source, &mut out);
-    assert_eq!(rt; status, Status::ReadFault);
-    let replies = out.taken().iter().filter(|byte| **byte == b'\n').count();
-    assert_eq!(rt; replies, 1365);
-    Ok(())
-}
-
 #[test]
 fn a_run_stops_at_its_limit(rt: HostRuntime) -> Result<(), Fail> {
     let alloc = rt.alloc();
@@ -216,34 +201,6 @@ fn a_run_stops_at_its_limit(rt: HostRuntime) -> Result<(), Fail> {
             "at {limit}"
         );
         assert_eq!(rt; out.taken(), output, "at {limit}");
-    }
-    Ok(())
-}
-
-// A line of this length and one more. The longest one that is read has 8,192 bytes.
-fn long_lines(alloc: Global, length: usize) -> Result<Vec<u8>, AllocError> {
-    let mut line = Vec::from_slice(alloc, b"{\"cmd\":\"create_pc\",\"name\":\"a\",\"proc\":0}")?;
-    line.resize(length, b' ')?;
-    joined(alloc, &[&line, b"\n", FILES])
-}
-
-#[test]
-fn a_line_has_at_most_8192_bytes(rt: HostRuntime) -> Result<(), Fail> {
-    let table = [
-        (
-            8192,
-            b"{\"ok\":\"done\",\"v\":1}\n{\"id\":1,\"ok\":\"done\",\"v\":2}\n".as_slice(),
-        ),
-        (8193, b",\"v\":0}\n{\"id\":1,\"ok\":\"done\",\"v\":1}\n"),
-    ];
-    for (length, end) in table {
-        let mut source = CalmSource::new(rt.alloc(), &long_lines(rt.alloc(), length)?)?;
-        let mut out = MemSink::new(rt.alloc(), ROOM, &[])?;
-        assert_eq!(rt;
-            run_lines(rt.alloc(), LIMIT, &mut source, &mut out),
-            Status::Done
-        );
-        assert!(rt; out.taken().ends_with(end), "at {length}");
     }
     Ok(())
 }
@@ -270,26 +227,6 @@ impl Source for Pieces {
         self.first = self.then;
         self.bytes.read(&mut piece[..most])
     }
-}
-
-#[test]
-fn the_cutting_into_pieces_does_not_matter(rt: HostRuntime) -> Result<(), Fail> {
-    let alloc = rt.alloc();
-    let input = joined(alloc, &[FILES, b"{}\n", FILES, b"{"])?;
-    let output = joined(alloc, &[DONE, b"{\"no\":\"not_request\",\"v\":1}\n", TAKEN])?;
-    for first in 1..input.len() {
-        for then in [1, ROOM] {
-            let bytes = CalmSource::new(alloc, &input)?;
-            let mut source = Pieces { bytes, first, then };
-            let mut out = MemSink::new(alloc, ROOM, &[])?;
-            assert_eq!(rt;
-                run_lines(alloc, LIMIT, &mut source, &mut out),
-                Status::Done
-            );
-            assert_eq!(rt; out.taken(), output.as_slice(), "{first}, then {then}");
-        }
-    }
-    Ok(())
 }
 
 #[test]

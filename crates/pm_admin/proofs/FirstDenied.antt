@@ -16,10 +16,14 @@ use Rattle.pm_model.specs.Formed.{IsWellFormed}
 use Rattle.pm_model.proofs.Walks.{drop-item}
 use Rattle.pm_laws.proofs.RightNames.{opening-few}
 
--- ---- a list of places
+-- ---- one right on each element of a list
 
+abbrev pub on_each : ℕ → List ℕ → List (ℕ × ℕ)
+on_each r ns = map (λ n. (r, n)) ns
+
+-- the places of a prohibition
 abbrev pub on_places : List ℕ → List (ℕ × ℕ)
-on_places places = map (λ a. (to_prohibit_to, a)) places
+on_places places = on_each to_prohibit_to places
 
 abbrev pub or_else : Option Refusal → Option Refusal → Option Refusal
 or_else (Some why) rest = Some why
@@ -31,31 +35,31 @@ module _ (G : Graph) (u : ℕ) (q : Option ℕ) where
   unless-rest r e (Some why) rest more = refl
   unless-rest r e None rest more = refl
 
-  -- the places of two sets: those of the first, and then those of the second
-  pub places-append : (xs ys : List ℕ) →
-      first_denied G u q (on_places (xs ++ ys)) ≡ or_else (first_denied G u q (on_places xs)) (first_denied G u q (on_places ys))
-  places-append [] ys = refl
-  places-append (x ∷ xs) ys =
-      ap (denied_unless G to_prohibit_to x (denial_in G u q to_prohibit_to x)) (places-append xs ys)
-      ∙ unless-rest to_prohibit_to x (denial_in G u q to_prohibit_to x) (first_denied G u q (on_places xs)) (first_denied G u q (on_places ys))
+  -- two lists: the elements of the first, and then those of the second
+  each-append : (r : ℕ) (xs ys : List ℕ) →
+      first_denied G u q (on_each r (xs ++ ys)) ≡ or_else (first_denied G u q (on_each r xs)) (first_denied G u q (on_each r ys))
+  each-append r [] ys = refl
+  each-append r (x ∷ xs) ys =
+      ap (denied_unless G r x (denial_in G u q r x)) (each-append r xs ys)
+      ∙ unless-rest r x (denial_in G u q r x) (first_denied G u q (on_each r xs)) (first_denied G u q (on_each r ys))
 
-  -- the answer to the places is that of those from place i on
-  abbrev pub IsLeft : List ℕ → ℕ → Type 0
-  IsLeft places i = first_denied G u q (on_places places) ≡ first_denied G u q (on_places (drop i places))
+  -- the answer to the elements is that of those from place i on
+  abbrev pub IsLeft : ℕ → List ℕ → ℕ → Type 0
+  IsLeft r ns i = first_denied G u q (on_each r ns) ≡ first_denied G u q (on_each r (drop i ns))
 
-  left-step : (places : List ℕ) (i x : ℕ) → IsLeft places i → slice_get places i ≡ Some x →
-      first_denied G u q (on_places places)
-      ≡ or_else (first_denied G u q (on_places (x ∷ []))) (first_denied G u q (on_places (drop (i + 1) places)))
-  left-step places i x h at =
-      h ∙ ap (λ xs. first_denied G u q (on_places xs)) (drop-item places i x at) ∙ places-append (x ∷ []) (drop (i + 1) places)
+  left-step : (r : ℕ) (ns : List ℕ) (i x : ℕ) → IsLeft r ns i → slice_get ns i ≡ Some x →
+      first_denied G u q (on_each r ns)
+      ≡ or_else (first_denied G u q (on_each r (x ∷ []))) (first_denied G u q (on_each r (drop (i + 1) ns)))
+  left-step r ns i x h at =
+      h ∙ ap (λ xs. first_denied G u q (on_each r xs)) (drop-item ns i x at) ∙ each-append r (x ∷ []) (drop (i + 1) ns)
 
-  pub left-denied : (places : List ℕ) (i x : ℕ) (why : Refusal) → IsLeft places i → slice_get places i ≡ Some x →
-      Some why ≡ first_denied G u q (on_places (x ∷ [])) → Some why ≡ first_denied G u q (on_places places)
-  left-denied places i x why h at is = rw (left-step places i x h at, ← is) refl
+  pub left-denied : (r : ℕ) (ns : List ℕ) (i x : ℕ) (why : Refusal) → IsLeft r ns i → slice_get ns i ≡ Some x →
+      Some why ≡ first_denied G u q (on_each r (x ∷ [])) → Some why ≡ first_denied G u q (on_each r ns)
+  left-denied r ns i x why h at is = rw (left-step r ns i x h at, ← is) refl
 
-  pub left-more : (places : List ℕ) (i x : ℕ) → IsLeft places i → slice_get places i ≡ Some x →
-      None ≡ first_denied G u q (on_places (x ∷ [])) → IsLeft places (i + 1)
-  left-more places i x h at is = rw (left-step places i x h at, ← is) refl
+  pub left-more : (r : ℕ) (ns : List ℕ) (i x : ℕ) → IsLeft r ns i → slice_get ns i ≡ Some x →
+      None ≡ first_denied G u q (on_each r (x ∷ [])) → IsLeft r ns (i + 1)
+  left-more r ns i x h at is = rw (left-step r ns i x h at, ← is) refl
 
   -- ---- one capability before others
 
@@ -74,7 +78,7 @@ module _ (G : Graph) (u : ℕ) (q : Option ℕ) where
   sets-left p e same none =
       let s = subject_element G p.subject in
       let allowed : None ≡ first_denied G u q ((to_prohibit, s) ∷ []) = subst (λ n. None ≡ first_denied G u q ((to_prohibit, n) ∷ [])) same none in
-      first-allowed to_prohibit s (denial_in G u q to_prohibit s) (first_denied G u q (on_places (p.inc ++ p.exc))) allowed ∙ places-append p.inc p.exc
+      first-allowed to_prohibit s (denial_in G u q to_prohibit s) (first_denied G u q (on_places (p.inc ++ p.exc))) allowed ∙ each-append to_prohibit_to p.inc p.exc
 
   pub inc-denied : (p : Prohibition) (e : ℕ) (why : Refusal) → e ≡ subject_element G p.subject →
       None ≡ first_denied G u q ((to_prohibit, e) ∷ []) → Some why ≡ first_denied G u q (on_places p.inc) →

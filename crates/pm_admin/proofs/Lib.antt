@@ -1,6 +1,6 @@
 mod FirstDenied
 mod Found
-mod Granting
+pub mod Granting
 mod Places
 mod Reasons
 mod RightNames

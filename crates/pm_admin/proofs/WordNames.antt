@@ -46,6 +46,7 @@ word_is_name word.Ahead = refl
 word_is_name word.UnknownProcess = refl
 word_is_name word.UnknownSession = refl
 word_is_name word.ResponseRefused = refl
+word_is_name word.KeepFault = refl
 word_is_name word.UnknownName = refl
 word_is_name word.Denied = refl
 word_is_name word.BadKinds = refl

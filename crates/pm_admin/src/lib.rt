@@ -12,6 +12,7 @@ mod obliging;
 mod operations;
 mod patterns;
 mod prohibiting;
+mod reviewing;
 mod rulings;
 #[cfg(test)]
 mod tests;
@@ -20,4 +21,5 @@ pub use access::{acting, authorise_access};
 pub use events::{names_in, patterns_live, raised};
 pub use guards::all_hold;
 pub use names::look_up;
+pub use reviewing::{authorise_review, is_user};
 pub use rulings::{Ruling, authorise, permit};

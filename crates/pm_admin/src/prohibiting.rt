@@ -44,7 +44,7 @@ fn look_up_subject(
     }
 }
 
-fn look_up_all(graph: &Graph, names: &NameList) -> Result<PlaceList, ChangeError>
+pub(crate) fn look_up_all(graph: &Graph, names: &NameList) -> Result<PlaceList, ChangeError>
     ensures { Finds (look_up_all graph.now names.now) result }
 {
     let mut places = PlaceList::new(names.allocator());

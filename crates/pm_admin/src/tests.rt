@@ -1,18 +1,12 @@
-//! Names, rulings, events and guards in small states, with answers worked out by hand.
+//! Each public call once in a small state, with answers worked out by hand.
 
 ghost use Rattle.pm_model.specs.Formed.{IsLive, IsUser};
 
-use crate::{Ruling, acting, authorise, authorise_access, look_up, permit};
-use pm_model::{Change, Command, ElementId, Kind, Memory, Name, NameList, Reason, Refusal};
-use pm_state::{Draft, Graph, State};
-use std::alloc::Global;
+use crate::{Ruling, acting, authorise, authorise_access, look_up, names_in, permit, raised};
+use pm_model::{Change, Command, ElementId, Event, Kind, Name, Refusal};
+use pm_state::{Graph, State};
 use std::process::Abort;
 use std::test::Fail;
-
-mod accesses;
-mod events;
-mod guards;
-mod obliging;
 
 fn named(rt: &impl Abort, text: &str) -> Name {
     Name::new(text.as_bytes()).expect(rt, "a name")
@@ -29,68 +23,67 @@ fn root(rt: &impl Abort, graph: &Graph) -> ElementId
     id
 }
 
-// The refusal's word, where it tells this name.
-fn word(why: &Refusal, told: Name) -> &'static str {
+// The refusal's word.
+fn word(why: &Refusal) -> &'static str {
     match why {
         Refusal::UnknownProcess => "unknown_process",
-        Refusal::UnknownName { name } => {
-            if *name == told {
-                "unknown_name"
-            } else {
-                "unknown_name of another"
-            }
-        }
+        Refusal::UnknownName { .. } => "unknown_name",
+        Refusal::Denied { .. } => "denied",
         _ => "another",
-    }
-}
-
-// The number of the class by which this right is denied on the element 0.
-fn denied_on_pm(why: &Refusal, asked: Name) -> Option<u32> {
-    match why {
-        Refusal::Denied {
-            right,
-            target: ElementId(0),
-            reason: Reason::Class(class),
-        } => {
-            if *right == asked {
-                Some(class.number())
-            } else {
-                None
-            }
-        }
-        _ => None,
     }
 }
 
 fn found(graph: &Graph, name: Name) -> Result<u32, &'static str> {
     match look_up(graph, name) {
         Ok(id) => Ok(id.number()),
-        Err(why) => Err(word(&why, name)),
+        Err(why) => Err(word(&why)),
     }
 }
 
-#[test]
-fn looks_up_names(rt: HostRuntime) -> Result<(), Fail> {
-    let state = State::opening(rt.alloc())?;
-    let graph = state.graph();
-    assert_eq!(rt; found(graph, named(&rt, "pm_admins")), Ok(1));
-    assert_eq!(rt; found(graph, named(&rt, "files")), Err("unknown_name"));
-    Ok(())
-}
-
-fn acts_for(graph: &Graph, process: u32, name: Name) -> Result<u32, &'static str> {
+fn acts_for(graph: &Graph, process: u32) -> Result<u32, &'static str> {
     match acting(graph, process) {
         Ok(id) => Ok(id.number()),
-        Err(why) => Err(word(&why, name)),
+        Err(why) => Err(word(&why)),
+    }
+}
+
+fn said(rt: &impl Abort, graph: &Graph, command: &Command) -> &'static str {
+    let user = root(rt, graph);
+    match authorise(graph, user, Some(0), command) {
+        Ok(Ruling::Allowed) => "allowed",
+        Ok(Ruling::Refused(why)) => word(&why),
+        Err(_) => "no memory",
+    }
+}
+
+// What is said of root's access to `pm`.
+fn read_by_root(rt: &impl Abort, graph: &Graph, right: Name) -> &'static str {
+    let user = root(rt, graph);
+    match authorise_access(graph, user, 0, right, named(rt, "pm")) {
+        Ok(_) => "granted",
+        Err(why) => word(&why),
     }
 }
 
 #[test]
-fn processes_act_for_their_users(rt: HostRuntime) -> Result<(), Fail> {
+fn the_opening(rt: HostRuntime) -> Result<(), Fail> {
     let state = State::opening(rt.alloc())?;
-    let name = named(&rt, "root");
-    assert_eq!(rt; acts_for(state.graph(), 0, name), Ok(2));
-    assert_eq!(rt; acts_for(state.graph(), 1, name), Err("unknown_process"));
+    let graph = state.graph();
+    let name = named(&rt, "files");
+    assert_eq!(rt; found(graph, named(&rt, "pm_admins")), Ok(1));
+    assert_eq!(rt; found(graph, name), Err("unknown_name"));
+    assert_eq!(rt; acts_for(graph, 0), Ok(2));
+    assert_eq!(rt; acts_for(graph, 1), Err("unknown_process"));
+    assert_eq!(rt; said(&rt, graph, &Command::CreatePc { name }), "allowed");
+    assert_eq!(rt;
+        said(&rt, graph, &Command::Withdraw { name }),
+        "unknown_name"
+    );
+    assert_eq!(rt; read_by_root(&rt, graph, named(&rt, "read")), "denied");
+    assert_eq!(rt;
+        read_by_root(&rt, graph, named(&rt, "create_user")),
+        "unknown_name"
+    );
     Ok(())
 }
 
@@ -107,79 +100,31 @@ fn class_made(change: &Change) -> Option<u32> {
     }
 }
 
-fn permitted(rt: &impl Abort, graph: &Graph, name: Name) -> Option<u32> {
+// The class that root's command makes, and the event that it raises by process 7.
+fn given(rt: &impl Abort, graph: &Graph, command: &Command) -> (Option<u32>, Option<Event>) {
     let user = root(rt, graph);
-    match permit(graph, user, Some(0), &Command::CreatePc { name }) {
-        Ok(change) => class_made(&change),
-        Err(_) => None,
+    match permit(graph, user, Some(0), command) {
+        Ok(change) => (class_made(&change), raised(graph, user, 7, &change)),
+        Err(_) => (None, None),
     }
 }
 
 #[test]
 fn a_class_takes_the_least_unused_number(rt: HostRuntime) -> Result<(), Fail> {
     let state = State::opening(rt.alloc())?;
-    assert_eq!(rt; permitted(&rt, state.graph(), named(&rt, "files")), Some(3));
-    Ok(())
-}
-
-// What is said of a command of root, where it tells this name.
-fn said(rt: &impl Abort, graph: &Graph, command: &Command, name: Name) -> &'static str {
-    let user = root(rt, graph);
-    match authorise(graph, user, Some(0), command) {
-        Ok(Ruling::Allowed) => "allowed",
-        Ok(Ruling::Refused(why)) => word(&why, name),
-        Err(_) => "no memory",
-    }
-}
-
-#[test]
-fn root_may_make_a_class(rt: HostRuntime) -> Result<(), Fail> {
-    let state = State::opening(rt.alloc())?;
-    let name = named(&rt, "files");
-    assert_eq!(rt;
-        said(&rt, state.graph(), &Command::CreatePc { name }, name),
-        "allowed"
-    );
-    Ok(())
-}
-
-#[test]
-fn the_first_unknown_name_is_told(rt: HostRuntime) -> Result<(), Fail> {
-    let state = State::opening(rt.alloc())?;
-    let (from, to) = (named(&rt, "ann"), named(&rt, "staff"));
-    assert_eq!(rt;
-        said(&rt, state.graph(), &Command::Assign { from, to }, from),
-        "unknown_name"
-    );
-    Ok(())
-}
-
-fn names(rt: &(impl Abort + Alloc<A = Global>), texts: &[&str]) -> Result<NameList, Memory> {
-    let mut list = NameList::new(rt.alloc());
-    for text in texts {
-        list.push(named(rt, text))?;
-    }
-    Ok(list)
-}
-
-// Root's command takes its effect in the draft.
-fn give(rt: &impl Abort, draft: &mut Draft, command: &Command) {
-    let user = root(rt, draft.graph());
-    match permit(draft.graph(), user, None, command) {
-        Ok(change) => assert!(rt; draft.change(&change).is_ok()),
-        Err(_) => assert!(rt; false),
-    }
-}
-
-// The opening with the object attribute `files` 3 in `pm`.
-fn with_files(rt: &(impl Abort + Alloc<A = Global>)) -> Draft {
-    let state = State::opening(rt.alloc()).expect(rt, "memory");
-    let mut draft = state.draft().expect(rt, "memory");
-    let command = Command::Create {
-        kind: Kind::Oa,
-        name: named(rt, "files"),
-        into: named(rt, "pm"),
+    let graph = state.graph();
+    let command = Command::CreatePc {
+        name: named(&rt, "files"),
     };
-    give(rt, &mut draft, &command);
-    draft
+    let (class, event) = given(&rt, graph, &command);
+    assert_eq!(rt; class, Some(3));
+    let event = event.expect(&rt, "an event");
+    assert!(rt; event.operation == named(&rt, "create_pc"));
+    let live = graph.elements().live(event.user) && graph.elements().live(event.target);
+    assert!(rt; live);
+    let names = names_in(graph, &event);
+    assert!(rt; names.user == named(&rt, "root"));
+    assert!(rt; names.target == named(&rt, "pm"));
+    assert_eq!(rt; names.process, 7);
+    Ok(())
 }

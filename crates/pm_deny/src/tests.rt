@@ -81,45 +81,13 @@ const ROWS: [Row; 6] = [
     ("f", Subject::Process(11), 1, &[3], &[]),
 ];
 
-/// Two prohibitions whose names stand in the list; the second has no element in its sets.
-const TAKEN: [Row; 2] = [
-    ("c", Subject::User(ElementId(5)), 1, &[3], &[]),
-    ("a", Subject::Process(1), 1, &[], &[]),
-];
-
 #[test]
-fn a_name_stands_once(rt: HostRuntime) -> Result<(), Fail> {
+fn prohibitions_come_and_go(rt: HostRuntime) -> Result<(), Fail> {
     let mut list = list_of(&rt, &ROWS)?;
-    for row in &TAKEN {
-        let item = item_of(&rt, row)?;
-        assert_eq!(rt; list.check_prohibit(&item), Err(DenyError::NameTaken));
-        assert_eq!(rt; list.prohibit(item), Err(DenyError::NameTaken));
-    }
-    assert_eq!(rt;
-        names_of(rt.alloc(), &list)?.as_slice(),
-        b"abcdef".as_slice()
-    );
-    Ok(())
-}
-
-#[test]
-fn one_of_the_sets_has_an_element(rt: HostRuntime) -> Result<(), Fail> {
-    let mut list = Deny::new(rt.alloc());
-    let user = Subject::User(ElementId(5));
-    let empty = item_of(&rt, &("a", user, 1, &[], &[]))?;
-    assert_eq!(rt; list.check_prohibit(&empty), Err(DenyError::EmptyRange));
-    assert_eq!(rt; list.prohibit(empty), Err(DenyError::EmptyRange));
-    list.prohibit(item_of(&rt, &("a", user, 1, &[3], &[]))?)?;
-    let excluding = item_of(&rt, &("b", user, 1, &[], &[3]))?;
-    assert_eq!(rt; list.check_prohibit(&excluding), Ok(()));
-    list.prohibit(excluding)?;
-    assert_eq!(rt; list.len(), 2);
-    Ok(())
-}
-
-#[test]
-fn lift_gives_the_prohibition(rt: HostRuntime) -> Result<(), Fail> {
-    let mut list = list_of(&rt, &ROWS)?;
+    assert!(rt; list.names(ElementId(9)));
+    assert!(rt; !list.names(ElementId(11)), "a process is no element");
+    let taken = item_of(&rt, &("c", Subject::Process(1), 1, &[], &[]))?;
+    assert_eq!(rt; list.check_prohibit(&taken), Err(DenyError::NameTaken));
     let c = named(&rt, "c");
     assert_eq!(rt; list.find(c), Some(2));
     let lifted = list.lift(c)?;
@@ -133,31 +101,8 @@ fn lift_gives_the_prohibition(rt: HostRuntime) -> Result<(), Fail> {
         b"abdef".as_slice()
     );
     assert_eq!(rt; list.find(c), None);
-    let again = list.lift(c);
-    assert!(rt; matches!(again, Err(DenyError::Absent)));
-    assert_eq!(rt; list.find(named(&rt, "d")), Some(2));
-    Ok(())
-}
-
-#[test]
-fn processes_end_with_their_prohibitions(rt: HostRuntime) -> Result<(), Fail> {
-    let mut list = list_of(&rt, &ROWS)?;
-    end(&mut list, &[1])?;
-    assert_eq!(rt; names_of(rt.alloc(), &list)?.as_slice(), b"bcdf".as_slice());
-    end(&mut list, &[1])?;
     end(&mut list, &[11, 1, 2, 3])?;
     assert_eq!(rt; names_of(rt.alloc(), &list)?.as_slice(), b"bd".as_slice());
-    Ok(())
-}
-
-#[test]
-fn names_subject_and_sets(rt: HostRuntime) -> Result<(), Fail> {
-    let list = list_of(&rt, &ROWS)?;
-    for id in 1..10 {
-        assert!(rt; list.names(ElementId(id)), "{id}");
-    }
-    assert!(rt; !list.names(ElementId(0)));
-    assert!(rt; !list.names(ElementId(11)), "a process is no element");
     Ok(())
 }
 
@@ -231,33 +176,6 @@ fn a_copy_is_another_list(rt: HostRuntime) -> Result<(), Fail> {
         third.inc.as_slice(),
         [ElementId(5), ElementId(6)].as_slice()
     );
-    Ok(())
-}
-
-fn numbered(rt: &impl Abort, n: u32) -> Name {
-    let digit = |place: u32| b'0' + (n / place % 10) as u8;
-    let bytes = [digit(1000), digit(100), digit(10), digit(1)];
-    Name::new(bytes.as_slice()).expect(rt, "a name")
-}
-
-#[test]
-fn holds_4096_prohibitions(rt: HostRuntime) -> Result<(), Fail> {
-    let mut list = Deny::new(rt.alloc());
-    for n in 0..4096 {
-        let mut item = item_of(&rt, &ROWS[0])?;
-        item.name = numbered(&rt, n);
-        list.prohibit(item)?;
-    }
-    assert_eq!(rt; list.len(), 4096);
-    assert_eq!(rt;
-        list.prohibit(item_of(&rt, &ROWS[0])?),
-        Err(DenyError::Full)
-    );
-    list.share()?;
-    let copy = list.copy()?;
-    end(&mut list, &[1])?;
-    assert_eq!(rt; list.len(), 0);
-    assert_eq!(rt; copy.find(numbered(&rt, 4095)), Some(4095));
     Ok(())
 }
 

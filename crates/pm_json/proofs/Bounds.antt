@@ -1,11 +1,13 @@
 -- How long the line of a reply may be.
-use Rattle.std.proofs.Common.{◌≤◌, ◌<◌, ◌^◌, ◌+◌, ℕ, List, [], ◌∷◌, ◌++◌, IsTrue, Option, None, Some, IfSome, ◌==◌, length, decimal, ap, arith, length-append}
+use Rattle.std.proofs.Common.{◌≤◌, ◌<◌, ◌^◌, ◌+◌, ◌*◌, Bool, true, false, map, ℕ, List, [], ◌∷◌, ◌++◌, IsTrue, Option, None, Some, IfSome, ◌==◌, length, decimal, ap, arith, length-append}
 use Rattle.std.specs.Prelude.{codes}
 use Rattle.json.specs.Print.{quoted}
-use Rattle.serde_json.specs.Data.{number, unsigned}
+use Rattle.std.specs.List.{zip}
+use Rattle.serde_json.specs.Data.{Data, number, unsigned}
+use Rattle.serde_json.specs.Written.{comma_if, items_text}
 use Rattle.pm_model.specs.Name.{is_name}
-use Rattle.pm_model.specs.Object.{whole_if, texted}
-use Rattle.pm_model.specs.Text.{text, front, back, bad_front, no_front, done_front, fired_if, granted_front, response_front, refusal_word, process_shown, session_shown, unknown_front, full_front, denied_front, refusal_front, table_word, said}
+use Rattle.pm_model.specs.Object.{items_of, listed, whole_if, texted}
+use Rattle.pm_model.specs.Text.{text, front, back, bad_front, list_front, survey_front, pair_told, count_told, rights_text, no_front, done_front, fired_if, granted_front, response_front, refusal_word, process_shown, session_shown, unknown_front, full_front, denied_front, refusal_front, table_word, said}
 use Rattle.pm_model.specs.Words.{key_text, word_text}
 use Rattle.pm_model.specs.declared.words.Key.{Key}
 use Rattle.pm_model.specs.declared.words.Key.TheVariants as key
@@ -17,15 +19,19 @@ use Rattle.pm_model.specs.declared.lines.BadLine.TheVariants.{TooLong, NotJson, 
 use Rattle.pm_model.specs.declared.replies.Refusal.{Refusal}
 use Rattle.pm_model.specs.declared.replies.Refusal.TheVariants as refusal
 use Rattle.pm_model.specs.declared.replies.Reply.{Reply}
-use Rattle.pm_model.specs.declared.replies.Reply.TheVariants.{Done, Granted, Bad, Ahead, Refused, ResponseRefused}
+use Rattle.pm_model.specs.declared.replies.Reply.TheVariants.{Done, Granted, Caps, Entries, Survey, Bad, Ahead, Refused, ResponseRefused, KeepFault}
+use Rattle.pm_model.specs.declared.reviews.Pair.{Pair}
 use Rattle.pm_model.specs.declared.replies.Reason.{Reason}
 use Rattle.pm_model.specs.declared.replies.Reason.TheVariants.{Class, Prohibition}
 use Rattle.pm_model.specs.declared.replies.Shown.{Shown}
 use Rattle.pm_model.specs.declared.replies.Shown.TheVariants as shown
 use Rattle.pm_model.specs.declared.replies.Table.{Table}
-use Rattle.pm_json.specs.Printable.{names_in, names_in_refusal, names_in_reason, numbers_in, numbers_in_shown, ShowsNames, ShowsNumbers, IsPrintable}
-use Rattle.pm_json.specs.Members.{keyed, leading, leading_all, trailing, trailing_all}
+use Rattle.pm_json.specs.Printable.{names_in, names_in_refusal, names_in_reason, names_of_pairs, numbers_in, numbers_in_shown, rights_of_pairs, ShowsNames, ShowsNumbers, IsPrintable}
+use Rattle.pm_json.specs.Growth.{front_most_of, reply_most}
+use Rattle.pm_json.specs.Members.{item_text, items_front, keyed, leading, leading_all, trailing, trailing_all}
 use Rattle.pm_json.proofs.Distinct.{by_test}
+use Rattle.pm_json.proofs.Hex.{hex_length, hex_quoted}
+use Rattle.pm_json.proofs.ItemTexts.{listed_text}
 use Rattle.pm_json.proofs.Members.{line_by}
 use Rattle.pm_json.proofs.Texts.{key_name, word_name, quoted_size, decimal_size}
 
@@ -156,14 +162,85 @@ response_size h obligation action why i m n =
     (more _ [] _ 0 (name_size key.Obligation obligation n) ended))) in
     omega (arith, e)
 
+-- ---- lists
+
+comma_size : (later : Bool) → length (comma_if later) ≤ 1
+comma_size true = omega arith
+comma_size false = omega arith
+
+-- a name and another value of at most 20 bytes
+item_size : (later : Bool) (name value : List ℕ) → IsTrue (is_name name) → length value ≤ 20 →
+    length (comma_if later ++ 91 ∷ (quoted name ++ 44 ∷ (value ++ 93 ∷ []))) ≤ 90
+item_size later name value n short =
+    let c = comma_size later in
+    let q = quoted_size name n in
+    let a = length-append (comma_if later) (91 ∷ (quoted name ++ 44 ∷ (value ++ 93 ∷ []))) in
+    let b = length-append (quoted name) (44 ∷ (value ++ 93 ∷ [])) in
+    let d = length-append value (93 ∷ []) in
+    omega (arith, c, q, a, b, d, short)
+
+rights_size : (rights : ℕ) → rights < 2 ^ 64 → length (quoted (rights_text rights)) ≤ 20
+rights_size rights fits =
+    let e = ap length (hex_quoted rights) in
+    let d = hex_length rights fits in
+    let a = length-append (rights_text rights) (34 ∷ []) in
+    omega (arith, e, d, a)
+
+pairs_size : (names : ℕ → List ℕ) (later : Bool) (list : List Pair) → ShowsNumbers (rights_of_pairs list) → ShowsNames (names_of_pairs names list) →
+    length (items_front later (map (pair_told names) list)) ≤ 90 * length list
+pairs_size names later [] m n = omega arith
+pairs_size names later (p ∷ ps) m n =
+    let here = item_size later (names p.element) (quoted (rights_text p.rights)) n.0 (rights_size p.rights m.0) in
+    let rest = pairs_size names true ps m.1 n.1 in
+    let a = length-append (item_text later (pair_told names p)) (items_front true (map (pair_told names) ps)) in
+    omega (arith, here, rest, a)
+
+counts_size : (names : ℕ → List ℕ) (later : Bool) (users counts : List ℕ) → ShowsNumbers counts → ShowsNames (map names users) →
+    length (items_front later (map (count_told names) (zip users counts))) ≤ 90 * length (zip users counts)
+counts_size names later [] counts m n = omega arith
+counts_size names later (u ∷ us) [] m n = omega arith
+counts_size names later (u ∷ us) (c ∷ cs) m n =
+    let here = item_size later (names u) (decimal c) n.0 (decimal_size c m.0) in
+    let rest = counts_size names true us cs m.1 n.1 in
+    let a = length-append (item_text later (count_told names (u, c))) (items_front true (map (count_told names) (zip us cs))) in
+    omega (arith, here, rest, a)
+
+listed_size : (k : Key) (ds : List Data) (n : ℕ) → length (items_front false ds) ≤ n → length (trailing (key_text k) (Some (listed ds))) ≤ 70 + n
+unfolding trailing
+listed_size k ds n short =
+    let lead = key_size k in
+    let e = ap length (listed_text ds) in
+    let a = length-append (keyed (key_text k)) (91 ∷ (items_text false (items_of ds) ++ 44 ∷ [])) in
+    let b = length-append (items_text false (items_of ds)) (44 ∷ []) in
+    let c = length-append (items_front false ds) (93 ∷ []) in
+    omega (arith, lead, e, a, b, c, short)
+
+list_size : (h : Head) (names : ℕ → List ℕ) (w : Word) (list : List Pair) → HasNumber h → ShowsNumbers (rights_of_pairs list) →
+    ShowsNames (names_of_pairs names list) → length (trailing_all (list_front h names w list)) ≤ 758 + 90 * length list
+list_size h names w list i m n =
+    let e = more _ _ _ _ (number_size key.Id h.id i)
+    (more _ _ _ _ (listed_size key.List (map (pair_told names) list) _ (pairs_size names false list m n)) (more _ [] _ 0 (word_size key.Ok w) ended)) in
+    omega (arith, e)
+
+survey_size : (h : Head) (names : ℕ → List ℕ) (users counts : List ℕ) → HasNumber h → ShowsNumbers counts → ShowsNames (map names users) →
+    length (trailing_all (survey_front h names users counts)) ≤ 758 + 90 * length (zip users counts)
+survey_size h names users counts i m n =
+    let e = more _ _ _ _ (listed_size key.Counts (map (count_told names) (zip users counts)) _ (counts_size names false users counts m n))
+    (more _ _ _ _ (number_size key.Id h.id i) (more _ [] _ 0 (word_size key.Ok word.Survey) ended)) in
+    omega (arith, e)
+
 front_size : (h : Head) (names : ℕ → List ℕ) (reply : Reply) → HasNumber h → ShowsNumbers (numbers_in reply) → ShowsNames (names_in names reply)
-    → length (trailing_all (front h names reply)) ≤ 758
+    → length (trailing_all (front h names reply)) ≤ front_most_of reply
 front_size h names (Done fired made) i m n = done_size h fired made i m.0 m.1
 front_size h names (Granted fired) i m n = granted_size h fired i m.0
+front_size h names (Caps list) i m n = list_size h names word.Caps list i m n
+front_size h names (Entries list) i m n = list_size h names word.Entries list i m n
+front_size h names (Survey users counts) i m n = survey_size h names users counts i m n
 front_size h names (Bad bad) i m n = bad_size h bad i
 front_size h names Ahead i m n = let e = no_size h word.Ahead i in omega (arith, e)
 front_size h names (Refused why) i m n = refusal_size h names why i n
 front_size h names (ResponseRefused obligation action why) i m n = response_size h obligation action why i m.0 n.0
+front_size h names KeepFault i m n = let e = no_size h word.KeepFault i in omega (arith, e)
 
 -- ---- the member behind `v`
 
@@ -178,14 +255,18 @@ behind_size k w =
 back_size : (reply : Reply) → length (leading_all (back reply)) ≤ 134
 back_size (Done fired made) = omega arith
 back_size (Granted fired) = omega arith
+back_size (Caps list) = omega arith
+back_size (Entries list) = omega arith
+back_size (Survey users counts) = omega arith
 back_size (Bad bad) = omega arith
 back_size Ahead = omega arith
 back_size (Refused why) = omega arith
 back_size (ResponseRefused obligation action why) = more _ [] _ 0 (behind_size key.Why (refusal_word why)) ended
+back_size KeepFault = omega arith
 
 -- ---- the line
 
-pub reply_is_short : (id : Option ℕ) (v : ℕ) (names : ℕ → List ℕ) (reply : Reply) → IsPrintable id v names reply → length (text id v names reply) ≤ 1024
+pub reply_is_short : (id : Option ℕ) (v : ℕ) (names : ℕ → List ℕ) (reply : Reply) → IsPrintable id v names reply → length (text id v names reply) ≤ reply_most reply
 reply_is_short id v names reply p =
     let members = trailing_all (front (record { id = id }) names reply) in
     let f = front_size (record { id = id }) names reply p.id_fits p.numbers_fit p.named in

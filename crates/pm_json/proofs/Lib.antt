@@ -1,9 +1,12 @@
+pub mod Appending
 pub mod Asking
 pub mod Bounds
 pub mod Distinct
 pub mod Fair
 pub mod Fields
 pub mod Guards
+pub mod Hex
+pub mod ItemTexts
 pub mod Items
 pub mod Limits
 pub mod Lists

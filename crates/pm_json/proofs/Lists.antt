@@ -23,9 +23,10 @@ use Rattle.pm_model.specs.declared.lines.BadLine.{BadLine}
 use Rattle.pm_model.specs.declared.elements.Kind.{Kind}
 use Rattle.pm_model.specs.declared.elements.Kind.TheVariants.{User, Ua, Object, Oa}
 use Rattle.pm_model.specs.declared.requests.Command.{Command}
+use Rattle.pm_model.specs.declared.requests.Question.{Question}
 use Rattle.pm_model.specs.declared.requests.Command.TheVariants.{CreatePc, Create, Delete, Assign, Deassign, Associate, Dissociate, Prohibit, Lift, DefineRight, Oblige, Withdraw}
 use Rattle.pm_model.specs.declared.requests.Body.{Body}
-use Rattle.pm_model.specs.declared.requests.Body.TheVariants.{Version, OpenSession, CloseSession, StartProcess, EndProcess, Access, Admin}
+use Rattle.pm_model.specs.declared.requests.Body.TheVariants.{Version, OpenSession, CloseSession, StartProcess, EndProcess, Access, Admin, Review}
 use Rattle.pm_model.specs.declared.requests.Request.{Request}
 use Rattle.pm_model.specs.declared.requests.What.TheVariants as what
 use Rattle.pm_json.specs.Lists.{AsksFor, listed, first_place, IsSetOf, HasRights, HasSets, HasLists}
@@ -206,6 +207,9 @@ module _ (look : List ℕ → Option Data) where
   access =
       after BodyHas (form.process_of look) _ (λ process i. after BodyHas (form.name_at look key.Right) _ (λ right j. after BodyHas (form.name_at look key.Target) _ (λ target k. here BodyHas (Access process right target) tt)))
 
+  review : (r : Result Question BadLine) → RowHas (form.review_of look r)
+  review r = after BodyHas (form.process_of look) _ (λ process i. after BodyHas r _ (λ question j. here BodyHas (Review process question) tt))
+
   -- of the row of a word, where it is one
   record OfRow (row : Option (Result Body BadLine)) : Type 0 where
     has : IfSome row RowHas
@@ -221,7 +225,8 @@ module _ (look : List ℕ → Option Data) where
       (step w _ _ _ (admin _ assign) (step w _ _ _ (admin _ deassign) (step w _ _ _ (admin _ associate) (step w _ _ _ (admin _ dissociate)
       (step w _ _ _ (admin _ prohibit) (step w _ _ _ (admin _ (named Lift (λ name. tt))) (step w _ _ _ (admin _ (named DefineRight (λ name. tt)))
       (step w _ _ _ (admin _ oblige) (step w _ _ _ (admin _ (named Withdraw (λ name. tt)))
-      (step w _ _ None access (record { has = tt })))))))))))))))))))))
+      (step w _ _ _ access (step w _ _ _ (review _) (step w _ _ _ (review _)
+      (step w _ _ None (review _) (record { has = tt }))))))))))))))))))))))))
 
   -- ---- the whole line
 

@@ -1,8 +1,9 @@
 -- What a reply's line says, by a look-up of its members.
 use Rattle.std.proofs.Common.{ℕ, List, [], ◌∷◌, Option, None, Some, option_and_then, option_map, unwrap_or, if◌then◌else◌, bytes_eq}
-use Rattle.serde_json.specs.Data.{Data}
-use Rattle.serde_json.specs.Find.{as_str}
-use Rattle.pm_model.specs.Forms.{name_form, whole_form}
+use Rattle.std.specs.Str.Parse.{digits_value}
+use Rattle.serde_json.specs.Data.{Data, array, string, number, unsigned, item, no_items}
+use Rattle.serde_json.specs.Find.{as_str, as_array}
+use Rattle.pm_model.specs.Forms.{list_of, name_form, whole_form}
 use Rattle.pm_model.specs.Words.{key_text, word_text}
 use Rattle.pm_model.specs.declared.words.Key.{Key}
 use Rattle.pm_model.specs.declared.words.Key.TheVariants as key
@@ -12,10 +13,10 @@ use Rattle.pm_model.specs.declared.lines.BadLine.TheVariants.{TooLong, NotJson, 
 use Rattle.pm_model.specs.declared.replies.Refusal.TheVariants as refusal
 use Rattle.pm_model.specs.declared.replies.Table.{Table}
 use Rattle.pm_model.specs.declared.replies.Table.TheVariants as table
-use Rattle.pm_model.specs.declared.replies.Reply.TheVariants.{Done, Granted, Bad, Ahead, Refused}
+use Rattle.pm_model.specs.declared.replies.Reply.TheVariants.{Done, Granted, Bad, Ahead, Refused, KeepFault}
 use Rattle.pm_model.specs.declared.replies.Shown as made
 use Rattle.pm_model.specs.declared.replies.Shown.TheVariants as shown
-use Rattle.pm_json.specs.Shown.{Shown, plain, denied, prohibited, response_refused}
+use Rattle.pm_json.specs.Shown.{Shown, plain, denied, prohibited, response_refused, reviewed, surveyed}
 
 pub record Said : Type 0 where
   pub id : Option ℕ
@@ -29,11 +30,11 @@ beside (p ∷ ps) w = if bytes_eq w (word_text p.0) then Some p.1 else beside ps
 
 abbrev pub keys : List Key
 keys =
-    key.Action ∷ key.After ∷ key.At ∷ key.Class ∷ key.Cmd ∷ key.Do ∷ key.Exc
+    key.Action ∷ key.After ∷ key.At ∷ key.Class ∷ key.Cmd ∷ key.Counts ∷ key.Do ∷ key.Element ∷ key.Exc
     ∷ key.Field ∷ key.Fired ∷ key.From ∷ key.Id ∷ key.If ∷ key.Inc ∷ key.Into
-    ∷ key.Mode ∷ key.Name ∷ key.No ∷ key.Obligation ∷ key.Ok ∷ key.On ∷ key.Proc
+    ∷ key.List ∷ key.Mode ∷ key.Name ∷ key.No ∷ key.Obligation ∷ key.Ok ∷ key.On ∷ key.Proc
     ∷ key.Process ∷ key.Prohibition ∷ key.Right ∷ key.Rights ∷ key.Session ∷ key.Subject ∷ key.Table
-    ∷ key.Target ∷ key.To ∷ key.Ua ∷ key.User ∷ key.V ∷ key.When ∷ key.Why ∷ []
+    ∷ key.Target ∷ key.To ∷ key.Ua ∷ key.User ∷ key.Users ∷ key.V ∷ key.When ∷ key.Why ∷ []
 
 -- the first of the keys that is spelt so
 abbrev pub spelt : List Key → List ℕ → Option Key
@@ -67,6 +68,15 @@ abbrev pub denied_by : List ℕ → List ℕ → Option (List ℕ) → Option (L
 denied_by right target (Some pc) _ = Some (denied right target pc)
 denied_by right target None (Some prohibition) = Some (prohibited right target prohibition)
 denied_by right target None None = None
+
+-- an item that is a name and a set of rights, and one that is a name and a number
+abbrev pub pair_read : Data → Option (List ℕ × ℕ)
+pair_read (array (item (string name) (item (string rights) no_items))) = Some (name, digits_value 16 rights)
+pair_read _ = None
+
+abbrev pub count_read : Data → Option (List ℕ × ℕ)
+count_read (array (item (string name) (item (number (unsigned n)) no_items))) = Some (name, n)
+count_read _ = None
 
 module _ (look : List ℕ → Option Data) where
   abbrev pub text_at : Key → Option (List ℕ)
@@ -104,8 +114,15 @@ module _ (look : List ℕ → Option Data) where
       option_and_then (λ obligation. option_and_then (λ action. option_map (response_refused obligation action)
       (option_and_then (beside refusal_words) (text_at key.Why))) (number_at key.Action)) (name_at key.Obligation)
 
-  abbrev pub ok_words : List (Word × Shown)
-  ok_words = (word.Done, done) ∷ (word.Granted, plain (Granted fired)) ∷ []
+  abbrev pub list_at : Key → (Data → Option (List ℕ × ℕ)) → Option (List (List ℕ × ℕ))
+  list_at k form = option_and_then (list_of form) (option_and_then as_array (look (key_text k)))
+
+  abbrev pub ok_words : List (Word × Option Shown)
+  ok_words =
+      (word.Done, Some done) ∷ (word.Granted, Some (plain (Granted fired)))
+      ∷ (word.Caps, option_map (reviewed word.Caps) (list_at key.List pair_read))
+      ∷ (word.Entries, option_map (reviewed word.Entries) (list_at key.List pair_read))
+      ∷ (word.Survey, option_map surveyed (list_at key.Counts count_read)) ∷ []
 
   abbrev pub no_words : List (Word × Option Shown)
   no_words =
@@ -120,11 +137,11 @@ module _ (look : List ℕ → Option Data) where
       ∷ (word.Occupied, Some (plain (Refused refusal.Occupied))) ∷ (word.InUse, Some (plain (Refused refusal.InUse)))
       ∷ (word.LastContainer, Some (plain (Refused refusal.LastContainer)))
       ∷ (word.Builtin, Some (plain (Refused refusal.Builtin))) ∷ (word.EmptyRange, Some (plain (Refused refusal.EmptyRange)))
-      ∷ (word.Full, full) ∷ (word.ResponseRefused, response) ∷ []
+      ∷ (word.Full, full) ∷ (word.ResponseRefused, response) ∷ (word.KeepFault, Some (plain KeepFault)) ∷ []
 
   -- by the word at `no`, or else at `ok`
   abbrev pub shown_from : Option (List ℕ) → Option Shown
-  shown_from None = option_and_then (beside ok_words) (text_at key.Ok)
+  shown_from None = option_and_then (λ what. what) (option_and_then (beside ok_words) (text_at key.Ok))
   shown_from (Some w) = option_and_then (λ what. what) (beside no_words w)
 
   abbrev pub said : Option Said

@@ -1,16 +1,18 @@
 -- A reply is what the members of its line say.
-use Rattle.std.proofs.Common.{take, length, length-append, ◌≡◌, ℕ, ◌<◌, ◌^◌, List, [], ◌∷◌, ◌++◌, true, nat_lt, IsTrue, Option, None, Some, IfSome, option_and_then, unwrap_or, ◌==◌, eqb-true, refl, sym, ap, ap₂, ◌∙◌, arith, lt-ltb}
+use Rattle.std.proofs.Common.{take, map, ◌≤◌, length, length-append, ◌≡◌, ℕ, ◌<◌, ◌^◌, List, [], ◌∷◌, ◌++◌, true, nat_lt, IsTrue, Option, None, Some, IfSome, option_and_then, unwrap_or, ◌==◌, eqb-true, refl, sym, ap, ap₂, ◌∙◌, arith, lt-ltb}
 use Rattle.std.proofs.Math.Seq.{take-append_seam}
 use Rattle.std.proofs.lemmas.Bool.{and_parts, and_from}
-use Rattle.std.specs.List.{list_all}
+use Rattle.std.specs.List.{list_all, zip}
 use Rattle.json.proofs.Printed.Utf8.{are_ascii, IsUtf8-are_ascii}
-use Rattle.serde_json.specs.Data.{Data, object}
+use Rattle.serde_json.specs.Data.{Data, object, items_depth}
 use Rattle.serde_json.specs.Read.{read}
 use Rattle.serde_json.specs.Written.{compact_text}
 use Rattle.pm_model.specs.Forms.{looking, whole_form}
 use Rattle.pm_model.specs.Name.{is_name, is_name_byte}
 use Rattle.pm_model.specs.Object.{present, whole, whole_if, texted}
-use Rattle.pm_model.specs.Text.{text, front, back, fired_if, no_front, refusal_word, said, table_word, with_version}
+use Rattle.pm_model.specs.Text.{text, front, back, fired_if, no_front, pair_told, count_told, refusal_word, rights_text, said, table_word, with_version}
+use Rattle.pm_model.specs.Forms.{list_of}
+use Rattle.pm_model.specs.Object.{items_of, listed}
 use Rattle.pm_model.specs.Words.{key_text, word_text}
 use Rattle.pm_model.specs.declared.words.Word.{Word}
 use Rattle.pm_model.specs.declared.words.Word.TheVariants as word
@@ -22,14 +24,16 @@ use Rattle.pm_model.specs.declared.replies.Refusal.{Refusal}
 use Rattle.pm_model.specs.declared.replies.Refusal.TheVariants as refusal
 use Rattle.pm_model.specs.declared.replies.Table.TheVariants as table
 use Rattle.pm_model.specs.declared.replies.Reply.{Reply}
-use Rattle.pm_model.specs.declared.replies.Reply.TheVariants.{Done, Granted, Bad, Ahead, Refused, ResponseRefused}
+use Rattle.pm_model.specs.declared.replies.Reply.TheVariants.{Done, Granted, Caps, Entries, Survey, Bad, Ahead, Refused, ResponseRefused, KeepFault}
+use Rattle.pm_model.specs.declared.reviews.Pair.{Pair}
 use Rattle.pm_model.specs.declared.replies.Reason.{Reason}
 use Rattle.pm_model.specs.declared.replies.Reason.TheVariants.{Class, Prohibition}
 use Rattle.pm_model.specs.declared.replies.Shown as made
 use Rattle.pm_model.specs.declared.replies.Shown.TheVariants as shows
-use Rattle.pm_json.specs.Printable.{names_in, names_in_refusal, names_in_reason, numbers_in, numbers_in_shown, ShowsNames, ShowsNumbers, IsPrintable}
-use Rattle.pm_json.specs.Shown.{Shown, shown}
-use Rattle.pm_json.proofs.Fair.{read-compact}
+use Rattle.pm_json.specs.Printable.{names_in, names_in_refusal, names_in_reason, names_of_pairs, numbers_in, numbers_in_shown, rights_of_pairs, ShowsNames, ShowsNumbers, IsPrintable}
+use Rattle.pm_json.specs.Shown.{Shown, shown, shown_pairs, shown_counts}
+use Rattle.pm_json.proofs.Fair.{ItemsFair, read-compact}
+use Rattle.pm_json.proofs.Hex.{hex_plain, hex_told}
 use Rattle.pm_json.proofs.Fields.{or_else, in_order, ValueFair, ValuesFair, MembersFair-present, shallow-present, finding, looks}
 use Rattle.pm_json.proofs.Distinct.{by_test}
 use Rattle.pm_json.proofs.Members.{plain-name}
@@ -74,7 +78,9 @@ spelt_key key.After = refl
 spelt_key key.At = refl
 spelt_key key.Class = refl
 spelt_key key.Cmd = refl
+spelt_key key.Counts = refl
 spelt_key key.Do = refl
+spelt_key key.Element = refl
 spelt_key key.Exc = refl
 spelt_key key.Field = refl
 spelt_key key.Fired = refl
@@ -83,6 +89,7 @@ spelt_key key.Id = refl
 spelt_key key.If = refl
 spelt_key key.Inc = refl
 spelt_key key.Into = refl
+spelt_key key.List = refl
 spelt_key key.Mode = refl
 spelt_key key.Name = refl
 spelt_key key.No = refl
@@ -101,6 +108,7 @@ spelt_key key.Target = refl
 spelt_key key.To = refl
 spelt_key key.Ua = refl
 spelt_key key.User = refl
+spelt_key key.Users = refl
 spelt_key key.V = refl
 spelt_key key.When = refl
 spelt_key key.Why = refl
@@ -169,14 +177,27 @@ module _ (id : Option ℕ) (v : ℕ) (names : ℕ → List ℕ) where
   unfolding key_text word_text
   told_response obligation action why h = let w = refusal_told why in rw (or_none (whole_if id), number_told id, h, w) refl
 
-  told : (reply : Reply) → ShowsNames (names_in names reply) → Told id v names reply
+  told_pairs : (list : List Pair) → ShowsNumbers (rights_of_pairs list) →
+      list_of replied.pair_read (items_of (map (pair_told names) list)) ≡ Some (shown_pairs names list)
+  told_pairs [] m = refl
+  told_pairs (p ∷ ps) m = let here = hex_told p.rights m.0 in let rest = told_pairs ps m.1 in rw (here, rest) refl
+
+  told_counts : (counts : List (ℕ × ℕ)) → list_of replied.count_read (items_of (map (count_told names) counts)) ≡ Some (shown_counts names counts)
+  told_counts [] = refl
+  told_counts (c ∷ cs) = let rest = told_counts cs in rw rest refl
+
+  told : (reply : Reply) → ShowsNumbers (numbers_in reply) → ShowsNames (names_in names reply) → Told id v names reply
   unfolding key_text word_text
-  told (Done fired what) h = told_done fired what
-  told (Granted fired) h = rw (or_none (whole_if id), number_told id, or_none (whole_if (fired_if fired)), number_told (fired_if fired), fired_told fired) refl
-  told (Bad bad) h = told_bad bad
-  told Ahead h = rw (or_none (whole_if id), number_told id) refl
-  told (Refused why) h = told_refused why h
-  told (ResponseRefused obligation action why) h = told_response obligation action why h.0
+  told (Done fired what) m h = told_done fired what
+  told (Caps list) m h = let t = told_pairs list m in rw (or_none (whole_if id), number_told id, t) refl
+  told (Entries list) m h = let t = told_pairs list m in rw (or_none (whole_if id), number_told id, t) refl
+  told (Survey users counts) m h = let t = told_counts (zip users counts) in rw (or_none (whole_if id), number_told id, t) refl
+  told (Granted fired) m h = rw (or_none (whole_if id), number_told id, or_none (whole_if (fired_if fired)), number_told (fired_if fired), fired_told fired) refl
+  told (Bad bad) m h = told_bad bad
+  told Ahead m h = rw (or_none (whole_if id), number_told id) refl
+  told (Refused why) m h = told_refused why h
+  told (ResponseRefused obligation action why) m h = told_response obligation action why h.0
+  told KeepFault m h = rw (or_none (whole_if id), number_told id) refl
 
 -- ---- the members are fair
 
@@ -198,6 +219,39 @@ fair-said w = fair-plain (word_text w) (plain-name (word_text w) (word_name w))
 fair-number : (n : Option ℕ) → IfSome n (λ n. n < 2 ^ 64) → ValueFair (whole_if n)
 fair-number None h = tt
 fair-number (Some n) h = (h, omega arith)
+
+-- the items of lists
+fair-pairs : (names : ℕ → List ℕ) (list : List Pair) → ShowsNames (names_of_pairs names list) → ItemsFair (items_of (map (pair_told names) list))
+fair-pairs names [] h = tt
+fair-pairs names (p ∷ ps) h = (
+  (
+    IsUtf8-are_ascii (names p.element) (ascii_plain (names p.element) (plain-name (names p.element) h.0)),
+    (IsUtf8-are_ascii (rights_text p.rights) (ascii_plain (rights_text p.rights) (hex_plain p.rights)), tt),
+  ),
+  fair-pairs names ps h.1,
+)
+
+fair-counts : (names : ℕ → List ℕ) (users counts : List ℕ) → ShowsNames (map names users) → ShowsNumbers counts →
+    ItemsFair (items_of (map (count_told names) (zip users counts)))
+fair-counts names [] counts h m = tt
+fair-counts names (u ∷ us) [] h m = tt
+fair-counts names (u ∷ us) (n ∷ ns) h m =
+    ((IsUtf8-are_ascii (names u) (ascii_plain (names u) (plain-name (names u) h.0)), (m.0, tt)), fair-counts names us ns h.1 m.1)
+
+pairs_shallow : (names : ℕ → List ℕ) (list : List Pair) → items_depth (items_of (map (pair_told names) list)) ≤ 1
+pairs_shallow names [] = omega arith
+pairs_shallow names (p ∷ ps) = let rest = pairs_shallow names ps in omega (arith, rest)
+
+counts_shallow : (names : ℕ → List ℕ) (counts : List (ℕ × ℕ)) → items_depth (items_of (map (count_told names) counts)) ≤ 1
+counts_shallow names [] = omega arith
+counts_shallow names (c ∷ cs) = let rest = counts_shallow names cs in omega (arith, rest)
+
+pairs-fair : (names : ℕ → List ℕ) (list : List Pair) → ShowsNames (names_of_pairs names list) → ValueFair (Some (listed (map (pair_told names) list)))
+pairs-fair names list h = let shallow = pairs_shallow names list in (fair-pairs names list h, omega (arith, shallow))
+
+counts-fair : (names : ℕ → List ℕ) (users counts : List ℕ) → ShowsNames (map names users) → ShowsNumbers counts →
+    ValueFair (Some (listed (map (count_told names) (zip users counts))))
+counts-fair names users counts h m = let shallow = counts_shallow names (zip users counts) in (fair-counts names users counts h m, omega (arith, shallow))
 
 fair-fired : (fired : ℕ) → fired < 2 ^ 64 → ValueFair (whole_if (fired_if fired))
 fair-fired fired h = by_test (fired == 0) (λ none. rw none tt) (λ some. rw some (h, omega arith))
@@ -233,10 +287,14 @@ module _ (id : Option ℕ) (v : ℕ) (names : ℕ → List ℕ) where
   unfolding key_text
   ordered (Done fired what) = refl
   ordered (Granted fired) = refl
+  ordered (Caps list) = refl
+  ordered (Entries list) = refl
+  ordered (Survey users counts) = refl
   ordered (Bad bad) = ordered_bad bad
   ordered Ahead = refl
   ordered (Refused why) = ordered_refused why
   ordered (ResponseRefused obligation action why) = refl
+  ordered KeepFault = refl
 
 -- the numbers of a line, and the names of elements
 module _ (id : Option ℕ) (v : ℕ) (names : ℕ → List ℕ) (i : IfSome id (λ n. n < 2 ^ 64)) (n : v < 2 ^ 64) where
@@ -288,11 +346,15 @@ module _ (id : Option ℕ) (v : ℕ) (names : ℕ → List ℕ) (i : IfSome id (
   fair : (reply : Reply) → ShowsNumbers (numbers_in reply) → ShowsNames (names_in names reply) → ValuesFair (members id v names reply)
   fair (Done fired what) m h = fair_done fired what m
   fair (Granted fired) m h = (fair-fired fired m.0, (fair-number id i, (fair-said word.Granted, (fair_version, tt))))
+  fair (Caps list) m h = (fair-number id i, (pairs-fair names list h, (fair-said word.Caps, (fair_version, tt))))
+  fair (Entries list) m h = (fair-number id i, (pairs-fair names list h, (fair-said word.Entries, (fair_version, tt))))
+  fair (Survey users counts) m h = (counts-fair names users counts h m, (fair-number id i, (fair-said word.Survey, (fair_version, tt))))
   fair (Bad bad) m h = fair_bad bad
   fair Ahead m h = fair_no word.Ahead
   fair (Refused why) m h = fair_refused why h
   fair (ResponseRefused obligation action why) m h =
       ((m.0, omega arith), (fair-number id i, (fair-said word.ResponseRefused, (fair-name obligation h.0, (fair_version, (fair-said (refusal_word why), tt))))))
+  fair KeepFault m h = fair_no word.KeepFault
 
 -- ---- the whole line
 
@@ -312,7 +374,7 @@ module _ (id : Option ℕ) (v : ℕ) (names : ℕ → List ℕ) (reply : Reply) 
       read-compact (data_of id v names reply) (MembersFair-present (members id v names reply) (ordered id v names reply) values) (omega (arith, shallow))
 
   said-line : said_in (read (compact_text (data_of id v names reply))) ≡ Some (said_as id v (shown names reply))
-  said-line = ap said_in read-line ∙ ap replied.said (looks (members id v names reply)) ∙ told id v names reply p.named
+  said-line = ap said_in read-line ∙ ap replied.said (looks (members id v names reply)) ∙ told id v names reply p.numbers_fit p.named
 
 -- what stands before a line feed
 cut_feed : (xs ys : List ℕ) → xs ++ 10 ∷ [] ≡ ys ++ 10 ∷ [] → xs ≡ ys

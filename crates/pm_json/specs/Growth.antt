@@ -1,6 +1,9 @@
 -- What a write to a vector in memory leaves, and how much a reply may write.
-use Rattle.std.specs.Prelude.{◌≡◌, ◌≤◌, ◌+◌, ◌*◌, ℕ, List, ◌++◌, take, Result, OnOk, IsOk, Vec, vec_len, vec_capacity, ⊤}
+use Rattle.std.specs.Prelude.{◌≡◌, ◌≤◌, ◌+◌, ◌*◌, ℕ, List, ◌++◌, length, take, Result, OnOk, IsOk, Vec, vec_len, vec_capacity, ⊤}
+use Rattle.std.specs.List.{zip}
 use Rattle.std.specs.declared.alloc.Global.{Global}
+use Rattle.pm_model.specs.declared.replies.Reply.{Reply}
+use Rattle.pm_model.specs.declared.replies.Reply.TheVariants.{Caps, Entries, Survey}
 
 -- on Ok the text was appended, which has at most so many bytes, else what stood stays at the front; where there was room
 -- for so many, it is Ok
@@ -22,3 +25,22 @@ text_most = 134
 -- at most six members stand before the version, of which one is the id
 abbrev pub front_most : ℕ
 front_most = 5 * text_most + number_most
+
+-- how many items the list of a review has
+abbrev pub items_in : Reply → ℕ
+items_in (Caps list) = length list
+items_in (Entries list) = length list
+items_in (Survey users counts) = length (zip users counts)
+items_in _ = 0
+
+-- how many bytes an item has at most, with its comma
+abbrev pub item_most : ℕ
+item_most = 90
+
+-- how many bytes the members before the version have at most
+abbrev pub front_most_of : Reply → ℕ
+front_most_of reply = front_most + item_most * items_in reply
+
+-- how many bytes the line of a reply has at most, with its line feed: 1,024, but for a review's
+abbrev pub reply_most : Reply → ℕ
+reply_most reply = 1024 + item_most * items_in reply

@@ -1,5 +1,5 @@
 -- What may be printed as a reply's line.
-use Rattle.std.specs.Prelude.{ℕ, ◌<◌, ◌^◌, List, [], ◌∷◌, Option, IfSome, IsTrue}
+use Rattle.std.specs.Prelude.{ℕ, ◌<◌, ◌^◌, List, [], ◌∷◌, map, Option, IfSome, IsTrue}
 use Rattle.pm_model.specs.Formed.{Each}
 use Rattle.pm_model.specs.Name.{is_name}
 use Rattle.pm_model.specs.declared.replies.Reason.{Reason}
@@ -7,7 +7,8 @@ use Rattle.pm_model.specs.declared.replies.Reason.TheVariants.{Class, Prohibitio
 use Rattle.pm_model.specs.declared.replies.Refusal.{Refusal}
 use Rattle.pm_model.specs.declared.replies.Refusal.TheVariants.{UnknownName, Denied}
 use Rattle.pm_model.specs.declared.replies.Reply.{Reply}
-use Rattle.pm_model.specs.declared.replies.Reply.TheVariants.{Done, Granted, Refused, ResponseRefused}
+use Rattle.pm_model.specs.declared.replies.Reply.TheVariants.{Done, Granted, Caps, Entries, Survey, Refused, ResponseRefused}
+use Rattle.pm_model.specs.declared.reviews.Pair.{Pair}
 use Rattle.pm_model.specs.declared.replies.Shown as made
 use Rattle.pm_model.specs.declared.replies.Shown.TheVariants as shown
 
@@ -20,8 +21,14 @@ names_in_refusal names (UnknownName name) = name ∷ []
 names_in_refusal names (Denied right target reason) = right ∷ names target ∷ names_in_reason names reason
 names_in_refusal names _ = []
 
+abbrev pub names_of_pairs : (ℕ → List ℕ) → List Pair → List (List ℕ)
+names_of_pairs names list = map (λ (p : Pair). names p.element) list
+
 -- the names that the reply shows, where elements have these
 abbrev pub names_in : (ℕ → List ℕ) → Reply → List (List ℕ)
+names_in names (Caps list) = names_of_pairs names list
+names_in names (Entries list) = names_of_pairs names list
+names_in names (Survey users counts) = map names users
 names_in names (Refused why) = names_in_refusal names why
 names_in names (ResponseRefused obligation action why) = obligation ∷ []
 names_in names _ = []
@@ -31,10 +38,17 @@ numbers_in_shown shown.Nothing = []
 numbers_in_shown (shown.Session n) = n ∷ []
 numbers_in_shown (shown.Process n) = n ∷ []
 
+-- sets of rights are shown as numbers too
+abbrev pub rights_of_pairs : List Pair → List ℕ
+rights_of_pairs list = map (λ (p : Pair). p.rights) list
+
 -- the numbers that the reply shows beside the id and the version
 abbrev pub numbers_in : Reply → List ℕ
 numbers_in (Done fired what) = fired ∷ numbers_in_shown what
 numbers_in (Granted fired) = fired ∷ []
+numbers_in (Caps list) = rights_of_pairs list
+numbers_in (Entries list) = rights_of_pairs list
+numbers_in (Survey users counts) = counts
 numbers_in (ResponseRefused obligation action why) = action ∷ []
 numbers_in _ = []
 

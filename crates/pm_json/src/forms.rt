@@ -5,7 +5,7 @@ ghost use Rattle.serde_json.specs.Data.{Data};
 ghost use Rattle.serde_json.specs.Find.{as_array};
 ghost use Rattle.serde_json.specs.View.{view, items_view};
 ghost use Rattle.pm_model.specs.Forms.{distinct, list_form, list_of, listed_form, looking, mode_form, mode_of, name_form, one_subject, rights_form, short_form, subject_by, whole_form};
-ghost use Rattle.pm_model.specs.Asked.{exc_at, mode_at, name_at, number_at, optional, process_of, required, rights_at, sets_of, subject_at};
+ghost use Rattle.pm_model.specs.Asked.{exc_at, mode_at, name_at, number_at, optional, process_of, required, rights_at, sets_of, subject_at, users_at};
 ghost use Rattle.pm_model.specs.Words.{key_text};
 ghost use Rattle.pm_json.specs.Reads.{Reads};
 
@@ -14,8 +14,8 @@ use pm_model::{BadLine, ItemList, Key, Memory, Mode, Name, NameList, Subject};
 use serde_json::Value;
 use std::alloc::Global;
 
-/// How many rights a line may list, repeats included.
-const MOST_RIGHTS: usize = 32;
+/// How many rights or users a line may list, repeats included.
+const MOST_LISTED: usize = 32;
 
 /// How many names the two sets of a prohibition may list together, repeats included.
 pub(crate) const MOST_IN_SETS: usize = 32;
@@ -166,7 +166,7 @@ pub(crate) fn distinct(alloc: Global, names: &[Name]) -> Result<NameList, Memory
     Ok(list)
 }
 
-/// A list of rights as it stands, repeats too.
+/// A list of rights or users as it stands, repeats too.
 pub(crate) fn listed(alloc: Global, value: &Value) -> Result<Option<NameList>, Memory>
     ensures { IfOk result (λ o. o ≡ listed_form (view value.now)) }
 {
@@ -174,7 +174,7 @@ pub(crate) fn listed(alloc: Global, value: &Value) -> Result<Option<NameList>, M
     match names {
         None => Ok(None),
         Some(names) => {
-            if names.len() == 0 || names.len() > MOST_RIGHTS {
+            if names.len() == 0 || names.len() > MOST_LISTED {
                 return Ok(None);
             }
             Ok(Some(names))
@@ -200,6 +200,19 @@ pub(crate) fn rights_at(alloc: Global, value: &Value) -> Result<NameList, ReadEr
     };
     match rights(alloc, found)? {
         None => Err(ReadError::Bad(BadLine::BadField(Key::Rights))),
+        Some(list) => Ok(list),
+    }
+}
+
+/// The users of a survey.
+pub(crate) fn users_at(alloc: Global, value: &Value) -> Result<NameList, ReadError>
+    ensures { Reads result (users_at (looking (view value.now))) }
+{
+    let Some(found) = value.get(Key::Users.text()) else {
+        return Err(ReadError::Bad(BadLine::BadField(Key::Users)));
+    };
+    match listed(alloc, found)? {
+        None => Err(ReadError::Bad(BadLine::BadField(Key::Users))),
         Some(list) => Ok(list),
     }
 }

@@ -11,16 +11,16 @@ ghost use Rattle.pm_model.specs.declared.replies.Refusal.TheVariants.{NameTaken}
 ghost use Rattle.pm_model.specs.Text.{text};
 ghost use Rattle.pm_model.specs.declared.replies.Reply.{Reply};
 ghost use Rattle.pm_model.specs.declared.requests.Command.{Command};
+ghost use Rattle.pm_json.specs.Growth.{reply_most};
 ghost use Rattle.pm_json.specs.Lists.{AsksFor, HasLists, listed};
 ghost use Rattle.pm_json.specs.Printable.{IsPrintable};
 ghost use Rattle.pm_json.specs.Shown.{shown};
 
-use crate::print::LONGEST_REPLY;
-
-/// The line of a reply has at most 1,024 bytes with its line feed.
+/// The line of a reply has at most 1,024 bytes with its line feed, and that of a review at most 90 more for each item of its
+/// list.
 pub fn reply_is_short()
     ensures { (id : Option ℕ) (version : ℕ) (names : ℕ → List ℕ) (reply : Reply)
-        → IsPrintable id version names reply → length (text id version names reply) ≤ LONGEST_REPLY }
+        → IsPrintable id version names reply → length (text id version names reply) ≤ reply_most reply }
 {}
 
 /// Two replies with one line show the same, with one id and at one version: they are one reply, but

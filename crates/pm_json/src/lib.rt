@@ -4,6 +4,7 @@
 mod errors;
 mod forms;
 mod laws;
+mod listing;
 mod print;
 mod put;
 mod read;
@@ -15,5 +16,5 @@ mod terms;
 mod tests;
 
 pub use laws::{command_word_is_taken, line_has_one_meaning, lists_are_kept, reply_is_short};
-pub use print::{LONGEST_REPLY, print_bad, print_reply};
+pub use print::{LONGEST_REPLY, longest, print_bad, print_reply};
 pub use read::read_request;

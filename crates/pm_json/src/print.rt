@@ -1,21 +1,55 @@
 //! The line of a reply, a function for each row of the table of replies.
-ghost use Rattle.std.specs.Prelude.{◌≡◌, ◌++◌, ◌∷◌, [], ◌≤◌, ◌+◌, ◌*◌, decimal, codes, take, vec_len, vec_capacity, OnOk, OnErr, IsOk};
-ghost use Rattle.pm_model.specs.Nameable.{IsNameable};
-ghost use Rattle.pm_model.specs.Text.{text, bad_text, front, back, bad_front, done_front, fired_if, granted_front, made_front, process_shown, session_shown, response_front};
+ghost use Rattle.std.specs.Prelude.{◌≡◌, ◌++◌, ◌∷◌, [], ◌<◌, ◌≤◌, ◌+◌, ◌-◌, ◌*◌, ◌^◌, decimal, codes, take, length, vec_len, vec_capacity, OnOk, OnErr, IsOk, IsTrue};
+ghost use Rattle.std.specs.List.{zip};
+ghost use Rattle.pm_model.specs.Formed.{Each};
+ghost use Rattle.pm_model.specs.Nameable.{ArePairsNameable, IsNameable};
+ghost use Rattle.pm_model.specs.Text.{text, bad_text, front, back, bad_front, done_front, fired_if, granted_front, list_front, made_front, process_shown, session_shown, response_front, survey_front};
 ghost use Rattle.pm_model.specs.Words.{key_text};
-ghost use Rattle.pm_json.specs.Growth.{Appended, front_most, number_most, text_most};
+ghost use Rattle.pm_json.specs.Growth.{Appended, front_most, front_most_of, item_most, items_in, number_most, reply_most, text_most};
 ghost use Rattle.pm_json.specs.Members.{keyed, trailing_all, leading_all};
 ghost use Rattle.pm_model.specs.declared.replies.Refusal.{Refusal};
 
+use crate::listing::{put_list, put_survey};
 use crate::put::{
     put, put_decimal, put_key, put_key_text, put_name, put_number, put_number_if, put_word,
     put_word_behind,
 };
 use crate::refusals::{put_no, put_refusal, refusal_word};
-use pm_model::{BadLine, Head, Key, Memory, Name, NameOf, Reply, Shown, Word};
+use pm_model::{BadLine, ElementId, Head, Key, Memory, Name, NameOf, Pair, Reply, Shown, Word};
 
-/// How many bytes the line of a reply has at most, with its line feed.
+/// How many bytes the line of a reply has at most, with its line feed, but for a review's.
 pub const LONGEST_REPLY: usize = 1024;
+
+// How many bytes an item of a review's list adds at most.
+const LONGEST_ITEM: usize = 90;
+
+// How many items the list of a review has.
+fn items_in(reply: &Reply) -> usize
+    ensures { result ≡ items_in reply.now }
+{
+    match reply {
+        Reply::Caps { list } | Reply::Entries { list } => list.len(),
+        Reply::Survey { users, counts } => users.len().min(counts.len()),
+        Reply::Done { .. }
+        | Reply::Granted { .. }
+        | Reply::Bad(_)
+        | Reply::Ahead
+        | Reply::Refused(_)
+        | Reply::ResponseRefused { .. }
+        | Reply::KeepFault => 0,
+    }
+}
+
+/// How many bytes the line of the reply has at most, with its line feed: with room for so many `print_reply` is Ok. Where
+/// that is more than a `usize` can tell, the largest one.
+pub fn longest(reply: &Reply) -> usize
+    ensures exact { items_in reply.now ≤ 2 ^ 32 → result ≡ reply_most reply.now }
+    ensures enough { result < 2 ^ 64 - 1 → result ≡ reply_most reply.now }
+{
+    items_in(reply)
+        .saturating_mul(LONGEST_ITEM)
+        .saturating_add(LONGEST_REPLY)
+}
 
 fn process_shown(shown: Shown) -> Option<u64>
     ensures { result ≡ process_shown shown }
@@ -105,6 +139,38 @@ fn put_response(
     put_name(out, Key::Obligation, obligation)
 }
 
+// A review that tells who has rights on what.
+fn put_review<N: NameOf>(
+    out: &mut Vec<u8>,
+    head: &Head,
+    names: &N,
+    word: Word,
+    list: &[Pair],
+) -> Result<(), Memory>
+    requires { ArePairsNameable (N.named names.now) list.now }
+    ensures { Appended out.old out.new (trailing_all (list_front head.now (N.name_at names.now) word list.now)) (front_most + item_most * length list.now) result }
+{
+    put_number_if(out, Key::Id, head.id)?;
+    put_list(out, names, list)?;
+    put_word(out, Key::Ok, word)
+}
+
+// One that tells how much each of several users may do.
+fn put_counted<N: NameOf>(
+    out: &mut Vec<u8>,
+    head: &Head,
+    names: &N,
+    users: &[ElementId],
+    counts: &[u64],
+) -> Result<(), Memory>
+    requires { Each (λ u. IsTrue (N.named names.now u)) users.now }
+    ensures { Appended out.old out.new (trailing_all (survey_front head.now (N.name_at names.now) users.now counts.now)) (front_most + item_most * length (zip users.now counts.now)) result }
+{
+    put_survey(out, names, users, counts)?;
+    put_number_if(out, Key::Id, head.id)?;
+    put_word(out, Key::Ok, Word::Survey)
+}
+
 fn put_front<N: NameOf>(
     out: &mut Vec<u8>,
     head: &Head,
@@ -112,11 +178,16 @@ fn put_front<N: NameOf>(
     reply: &Reply,
 ) -> Result<(), Memory>
     requires { IsNameable (N.named names.now) reply.now }
-    ensures { Appended out.old out.new (trailing_all (front head.now (N.name_at names.now) reply.now)) front_most result }
+    ensures { Appended out.old out.new (trailing_all (front head.now (N.name_at names.now) reply.now)) (front_most_of reply.now) result }
 {
     match reply {
         Reply::Done { fired, shown } => put_done(out, head, *fired, *shown),
         Reply::Granted { fired } => put_granted(out, head, *fired),
+        Reply::Caps { list } => put_review(out, head, names, Word::Caps, list.as_slice()),
+        Reply::Entries { list } => put_review(out, head, names, Word::Entries, list.as_slice()),
+        Reply::Survey { users, counts } => {
+            put_counted(out, head, names, users.as_slice(), counts.as_slice())
+        }
         Reply::Bad(bad) => put_bad(out, head, bad),
         Reply::Ahead => put_no(out, head, Word::Ahead),
         Reply::Refused(why) => put_refusal(out, head, names, why),
@@ -125,6 +196,7 @@ fn put_front<N: NameOf>(
             action,
             ..
         } => put_response(out, head, obligation, *action),
+        Reply::KeepFault => put_no(out, head, Word::KeepFault),
     }
 }
 
@@ -143,9 +215,13 @@ fn put_back(out: &mut Vec<u8>, reply: &Reply) -> Result<(), Memory>
         Reply::ResponseRefused { why, .. } => put_word_behind(out, Key::Why, refusal_word(why)),
         Reply::Done { .. }
         | Reply::Granted { .. }
+        | Reply::Caps { .. }
+        | Reply::Entries { .. }
+        | Reply::Survey { .. }
         | Reply::Bad(_)
         | Reply::Ahead
-        | Reply::Refused(_) => Ok(()),
+        | Reply::Refused(_)
+        | Reply::KeepFault => Ok(()),
     }
 }
 
@@ -163,7 +239,7 @@ fn put_line_parts<N: NameOf>(
     reply: &Reply,
 ) -> Result<(), Memory>
     requires { IsNameable (N.named names.now) reply.now }
-    ensures { Appended out.old out.new (codes "{" ++ (trailing_all (front head.now (N.name_at names.now) reply.now) ++ (keyed (key_text Key.V) ++ (decimal version ++ (leading_all (back reply.now) ++ codes "}\n"))))) LONGEST_REPLY result }
+    ensures { Appended out.old out.new (codes "{" ++ (trailing_all (front head.now (N.name_at names.now) reply.now) ++ (keyed (key_text Key.V) ++ (decimal version ++ (leading_all (back reply.now) ++ codes "}\n"))))) (reply_most reply.now) result }
 {
     put(out, b"{")?;
     put_front(out, head, names, reply)?;
@@ -180,7 +256,7 @@ fn put_line<N: NameOf>(
     reply: &Reply,
 ) -> Result<(), Memory>
     requires { IsNameable (N.named names.now) reply.now }
-    ensures { Appended out.old out.new (text id version (N.name_at names.now) reply.now) LONGEST_REPLY result }
+    ensures { Appended out.old out.new (text id version (N.name_at names.now) reply.now) (reply_most reply.now) result }
 {
     put_line_parts(out, &Head { id }, version, names, reply)
 }
@@ -223,8 +299,9 @@ fn whole_or_none(
     written
 }
 
-/// Appends the line of the reply, its line feed included. On Memory `out` is as before; with room
-/// for 1,024 bytes it is Ok. `names` is asked for each element that the reply tells by its number.
+/// Appends the line of the reply, its line feed included. On Memory `out` is as before; with room for as many bytes as
+/// `longest` says it is Ok: for 1,024, and for 90 more for each item of the list of a review. `names` is asked for each element that the reply tells by
+/// its number.
 pub fn print_reply<N: NameOf>(
     id: Option<u64>,
     version: u64,
@@ -235,7 +312,7 @@ pub fn print_reply<N: NameOf>(
     requires { IsNameable (N.named names.now) reply.now }
     ensures ok { OnOk result (out.new.items ≡ out.old.items ++ text id version (N.name_at names.now) reply.now) }
     ensures err { OnErr result (out.new.items ≡ out.old.items) }
-    ensures room { vec_len out.old + LONGEST_REPLY ≤ vec_capacity out.old → IsOk result }
+    ensures room { vec_len out.old + reply_most reply.now ≤ vec_capacity out.old → IsOk result }
     ensures capacity { vec_capacity out.old ≤ vec_capacity out.new }
 {
     let before = out.len();

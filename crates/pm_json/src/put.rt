@@ -37,7 +37,7 @@ fn put_between_quotes(out: &mut Vec<u8>, text: &[u8]) -> Result<(), Memory>
 }
 
 /// Appends the text in quotes, which has the form of a name and needs no escape.
-fn put_quoted(out: &mut Vec<u8>, text: &[u8]) -> Result<(), Memory>
+pub(crate) fn put_quoted(out: &mut Vec<u8>, text: &[u8]) -> Result<(), Memory>
     requires { IsTrue (is_name text.now) }
     ensures { Appended out.old out.new (quoted text.now) 66 result }
 {

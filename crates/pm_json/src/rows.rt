@@ -2,16 +2,17 @@
 ghost use Rattle.std.specs.Prelude.{Result, ◌≡◌};
 ghost use Rattle.serde_json.specs.View.{view};
 ghost use Rattle.pm_model.specs.Forms.{looking};
-ghost use Rattle.pm_model.specs.Asked.{access_of, admin_of, assign_of, associate_of, close_session_of, create_of, create_pc_of, deassign_of, define_right_of, delete_of, dissociate_of, do_at, end_process_of, ends_of, lift_of, oblige_of, open_session_of, prohibit_of, row_of, start_process_of, when_at, withdraw_of};
+ghost use Rattle.pm_model.specs.Asked.{access_of, admin_of, assign_of, associate_of, caps_of, close_session_of, create_of, create_pc_of, deassign_of, define_right_of, delete_of, dissociate_of, do_at, end_process_of, ends_of, entries_of, lift_of, oblige_of, open_session_of, prohibit_of, review_of, row_of, start_process_of, survey_of, when_at, withdraw_of};
 ghost use Rattle.pm_model.specs.declared.lines.BadLine.{BadLine};
 ghost use Rattle.pm_model.specs.declared.requests.Command.{Command};
+ghost use Rattle.pm_model.specs.declared.requests.Question.{Question};
 ghost use Rattle.pm_json.specs.Reads.{Reads, ReadsRow};
 
 use crate::errors::ReadError;
-use crate::forms::{mode_at, name_at, number_at, process, rights_at, sets, subject_at};
+use crate::forms::{mode_at, name_at, number_at, process, rights_at, sets, subject_at, users_at};
 use crate::responses::response;
 use crate::terms::when;
-use pm_model::{Awaited, BadLine, Body, Command, Key, Kind, Name, Response};
+use pm_model::{Awaited, BadLine, Body, Command, Key, Kind, Name, Question, Response};
 use serde_json::Value;
 use std::alloc::Global;
 
@@ -209,6 +210,45 @@ fn plain_admin(command: Result<Command, BadLine>, value: &Value) -> Result<Body,
     }
 }
 
+fn caps(value: &Value) -> Result<Question, BadLine>
+    ensures { result ≡ caps_of (looking (view value.now)) }
+{
+    let user = name_at(Key::User, value)?;
+    Ok(Question::Caps { user })
+}
+
+fn entries(value: &Value) -> Result<Question, BadLine>
+    ensures { result ≡ entries_of (looking (view value.now)) }
+{
+    let element = name_at(Key::Element, value)?;
+    Ok(Question::Entries { element })
+}
+
+fn survey(alloc: Global, value: &Value) -> Result<Question, ReadError>
+    ensures { Reads result (survey_of (looking (view value.now))) }
+{
+    let users = users_at(alloc, value)?;
+    Ok(Question::Survey { users })
+}
+
+fn review(question: Result<Question, ReadError>, value: &Value) -> Result<Body, ReadError>
+    ensures { (q : Result Question BadLine) → Reads question q → Reads result (review_of (looking (view value.now)) q) }
+{
+    let process = process(value)?;
+    let question = question?;
+    Ok(Body::Review { process, question })
+}
+
+// The same, of a question whose reading takes no memory.
+fn plain_review(question: Result<Question, BadLine>, value: &Value) -> Result<Body, ReadError>
+    ensures { Reads result (review_of (looking (view value.now)) question) }
+{
+    match question {
+        Ok(question) => review(Ok(question), value),
+        Err(bad) => review(Err(ReadError::Bad(bad)), value),
+    }
+}
+
 /// The row of the word, where it is one.
 #[tactic(auto, unfolding(pm_model::specs::Words::word_text))]
 pub(crate) fn row(alloc: Global, word: &str, value: &Value) -> Option<Result<Body, ReadError>>
@@ -236,6 +276,9 @@ pub(crate) fn row(alloc: Global, word: &str, value: &Value) -> Option<Result<Bod
         "oblige" => Some(admin(oblige(alloc, value), value)),
         "withdraw" => Some(plain_admin(withdraw(value), value)),
         "access" => Some(access(value)),
+        "caps" => Some(plain_review(caps(value), value)),
+        "entries" => Some(plain_review(entries(value), value)),
+        "survey" => Some(review(survey(alloc, value), value)),
         _ => None,
     }
 }

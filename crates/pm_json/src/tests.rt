@@ -1,5 +1,4 @@
 //! What lines ask, and the lines of replies.
-mod obliging;
 mod printing;
 mod reading;
-mod responding;
+mod telling;

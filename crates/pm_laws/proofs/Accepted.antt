@@ -2,6 +2,7 @@
 use Rattle.std.proofs.Common.{◌≡◌, ◌≤◌, ◌+◌, ◌<◌, ◌&&◌, ℕ, nat_le, Bool, false, List, [], ◌∷◌, length, Option, Some, Result, Ok, Err, is_some, refl, subst, arith}
 use Rattle.std.proofs.lemmas.Bool.{cond_both, leb-false}
 use Rattle.std.proofs.lemmas.Option.{same_Some}
+use Rattle.pm_model.specs.Reviews.{reviewed}
 use Rattle.pm_model.specs.State.{State, Graph}
 use Rattle.pm_model.specs.Effect.{effect}
 use Rattle.pm_model.specs.Events.{obliging, responders}
@@ -75,7 +76,7 @@ accepted-next S r =
     answer-is (IsStepped S) S r (told-stepped S (Refused (Full History))) (told-stepped S Ahead)
     (body-is (IsStepped S) S r.body (told-stepped S (Done 0 Nothing)) (λ why. told-stepped S (Refused why))
     (λ e c. made-stepped S c _ e (responders S.graph (obliging S.graph c) e) (effect S.graph c) refl)
-    (λ e. granted-stepped S e (responders S.graph S.graph.obligations (Some e))))
+    (λ e. granted-stepped S e (responders S.graph S.graph.obligations (Some e))) (λ review. told-stepped S (reviewed S.graph review)))
 
 roomy : (o : Option State) (full : Bool) (T : State) → o ≡ Some T → (is_some o && full) ≡ false → full ≡ false
 roomy o full T some shut = let is : (is_some o && full) ≡ full = rw some refl in cc

@@ -1,4 +1,5 @@
--- What an answer comes to: a refusal, a change, or an access that is granted; and what these are where nothing responds.
+-- What an answer comes to: a refusal, a change, an access that is granted, or what a review tells; and what these are where
+-- nothing responds.
 use Rattle.std.proofs.Common.{◌≡◌, ◌&&◌, nat_le, ℕ, [], Option, Some, None, Result, Ok, Err, is_some, refl}
 use Rattle.std.proofs.lemmas.Bool.{cond_both}
 use Rattle.pm_model.specs.State.{State, Graph}
@@ -8,7 +9,8 @@ use Rattle.pm_model.specs.Events.{event, obliging, raised, responders}
 use Rattle.pm_model.specs.Resolve.{look_up}
 use Rattle.pm_model.specs.Authority.{ruling}
 use Rattle.pm_model.specs.Made.{made_by, shown_of}
-use Rattle.pm_model.specs.Answer.{Answer, told, made, entered, accessed, granted, or_refused, acting, administered, answer_access, answer_body, is_ahead, proposed, longest_history, answer}
+use Rattle.pm_model.specs.Reviews.{review_ruling, reviewed}
+use Rattle.pm_model.specs.Answer.{Answer, told, made, entered, accessed, granted, or_refused, acting, administered, answer_access, answer_review, answer_body, is_ahead, proposed, longest_history, answer}
 use Rattle.pm_model.specs.Formed.{IsWellFormed, IsUser}
 use Rattle.pm_model.specs.declared.events.Event.{Event}
 use Rattle.pm_model.specs.declared.requests.Change.{Change}
@@ -16,6 +18,8 @@ use Rattle.pm_model.specs.declared.requests.Change.TheVariants.{OpenSession, Clo
 use Rattle.pm_model.specs.declared.requests.Body.{Body}
 use Rattle.pm_model.specs.declared.requests.Body.TheVariants as body
 use Rattle.pm_model.specs.declared.requests.Request.{Request}
+use Rattle.pm_model.specs.declared.requests.Question.{Question}
+use Rattle.pm_model.specs.declared.requests.Review.{Review}
 use Rattle.pm_model.specs.declared.replies.Refusal.{Refusal}
 use Rattle.pm_model.specs.declared.replies.Refusal.TheVariants.{UnknownProcess, Full}
 use Rattle.pm_model.specs.declared.replies.Table.TheVariants.{History}
@@ -50,23 +54,33 @@ module _ (P : Answer → Type 0) where
       cond_both (is_some a.next && nat_le longest_history S.version) (told (Refused (Full History))) a P (λ is. full)
       (λ is. cond_both (is_ahead r.after S.version) (told Ahead) (answer_body S r.body) P (λ is. ahead) (λ is. each))
 
-  -- of every refusal, change and grant
+  -- of a review
+  pub review-is : (S : State) (q : ℕ) (question : Question) → ((why : Refusal) → P (told (Refused why))) →
+      ((r : Review) → P (told (reviewed S.graph r))) → P (answer_body S (body.Review q question))
+  review-is S q question refused review =
+      or_refused-is (acting S.graph q) (λ u. answer_review S u q question) (λ why is. refused why)
+      (λ u is. or_refused-is (review_ruling S.graph u (Some q) question) (λ r. told (reviewed S.graph r)) (λ why is. refused why)
+      (λ r is. review r))
+
+  -- of every refusal, change, grant and review
   pub body-is : (S : State) (b : Body) → P (told (Done 0 Nothing)) → ((why : Refusal) → P (told (Refused why))) →
-      ((e : Option Event) (c : Change) → P (entered S e c)) → ((e : Event) → P (granted S e)) → P (answer_body S b)
-  body-is S body.Version version refused change grant = version
-  body-is S (body.OpenSession user) version refused change grant =
+      ((e : Option Event) (c : Change) → P (entered S e c)) → ((e : Event) → P (granted S e)) →
+      ((r : Review) → P (told (reviewed S.graph r))) → P (answer_body S b)
+  body-is S body.Version version refused change grant review = version
+  body-is S (body.OpenSession user) version refused change grant review =
       or_refused-is (look_up S.graph user) (λ u. entered S None (OpenSession u)) (λ why is. refused why) (λ u is. change None (OpenSession u))
-  body-is S (body.CloseSession n) version refused change grant = change None (CloseSession n)
-  body-is S (body.StartProcess n) version refused change grant = change None (StartProcess n)
-  body-is S (body.EndProcess n) version refused change grant = change None (EndProcess n)
-  body-is S (body.Access q right target) version refused change grant =
+  body-is S (body.CloseSession n) version refused change grant review = change None (CloseSession n)
+  body-is S (body.StartProcess n) version refused change grant review = change None (StartProcess n)
+  body-is S (body.EndProcess n) version refused change grant review = change None (EndProcess n)
+  body-is S (body.Access q right target) version refused change grant review =
       or_refused-is (acting S.graph q) (λ u. answer_access S u q right target) (λ why is. refused why)
       (λ u is. or_refused-is (accessed S.graph u q right target) (λ t. granted S (event u q right t)) (λ why is. refused why)
       (λ t is. grant (event u q right t)))
-  body-is S (body.Admin q c) version refused change grant =
+  body-is S (body.Admin q c) version refused change grant review =
       or_refused-is (acting S.graph q) (λ u. administered S u q (ruling S.graph u (Some q) c)) (λ why is. refused why)
       (λ u is. or_refused-is (ruling S.graph u (Some q) c) (λ d. entered S (raised S.graph u q d) d) (λ why is. refused why)
       (λ d is. change (raised S.graph u q d) d))
+  body-is S (body.Review q question) version refused change grant review = review-is S q question refused review
 
 -- ---- no responder
 

@@ -23,7 +23,7 @@ use Rattle.pm_laws.proofs.Formed.{formed-effect}
 use Rattle.pm_laws.proofs.Resolved.{looked_up-live}
 use Rattle.pm_laws.proofs.Authority.{ruling-named}
 use Rattle.pm_laws.proofs.Responding.{responder-may, obliging-stands, responded-formed}
-use Rattle.pm_laws.proofs.Bodies.{acting-user, or_refused-is, answer-is}
+use Rattle.pm_laws.proofs.Bodies.{acting-user, or_refused-is, review-is, answer-is}
 
 abbrev IsKept : State → Answer → Type 0
 IsKept S a = IsWellFormed (after S a).graph
@@ -73,6 +73,7 @@ body-kept S (body.Admin q c) f s p =
     or_refused-is (IsKept S) (acting S.graph q) (λ u. administered S u q (ruling S.graph u (Some q) c)) (λ why is. f)
     (λ u acts. or_refused-is (IsKept S) (ruling S.graph u (Some q) c) (λ d. entered S (raised S.graph u q d) d) (λ why is. f)
     (λ d is. entered-kept S (raised S.graph u q d) d f (ruling-named S.graph u (Some q) c d (acting-user S.graph q u f acts) is)))
+body-kept S (body.Review q question) f s p = review-is (IsKept S) S q question (λ why. f) (λ r. f)
 
 pub formed-answer : (S : State) (r : Request) → IsWellFormed S.graph → HasNext S.graph.procs.next_session →
     HasNext S.graph.procs.next_process → IsWellFormed (after S (answer S r)).graph

@@ -29,6 +29,7 @@ pub mod Prohibitions
 pub mod Recorded
 pub mod Replayed
 pub mod Resolved
+pub mod Reviewed
 pub mod Responding
 pub mod RightNames
 pub mod Shape

@@ -8,18 +8,21 @@ use Rattle.pm_model.specs.Containment.{contained}
 use Rattle.pm_model.specs.RightSet.{bit_named, is_access_right}
 use Rattle.pm_model.specs.Sessions.{user_of}
 use Rattle.pm_model.specs.Decision.{classes_of, is_met}
-use Rattle.pm_model.specs.Resolve.{look_up, resolve}
+use Rattle.pm_model.specs.Resolve.{look_up, resolve, resolve_question}
+use Rattle.pm_model.specs.Results.{first_of, unless}
+use Rattle.pm_model.specs.Reviews.{review_checks, permitted_review, review_ruling, reviewed}
 use Rattle.pm_model.specs.Effect.{effect}
 use Rattle.pm_model.specs.Made.{made_by, shown_of}
-use Rattle.pm_model.specs.Answer.{Answer, responded, settled, made, entered, acting, if_access, allowed_unless, accessed, granted_with, granted, or_refused, administered, answer_access, answer_body, answer, after}
+use Rattle.pm_model.specs.Answer.{Answer, told, responded, settled, made, entered, acting, if_access, allowed_unless, accessed, granted_with, granted, or_refused, administered, answer_access, answer_review, answer_body, answer, after}
 use Rattle.pm_model.specs.Events.{event, obliging, raised, responders}
 use Rattle.pm_model.specs.Responses.{Stopped}
-use Rattle.pm_model.specs.Authority.{lacking_in, forbidding_in, reason_of, is_administrative, denial_in, denied_unless, first_denied, required, permitted, ruling}
+use Rattle.pm_model.specs.Authority.{lacking_in, forbidding_in, reason_of, is_administrative, denial_in, denied_unless, first_denied, required, required_by, subjects_of, permitted, ruling}
 use Rattle.pm_model.specs.Nameable.{IsReasonNameable, IsRefusalNameable, IsNameable}
 use Rattle.pm_model.specs.Formed.{Each, IsLive, IsUser, IsWellFormed}
 use Rattle.pm_model.specs.declared.events.Event.{Event}
 use Rattle.pm_model.specs.declared.obligations.Obligation.{Obligation}
 use Rattle.pm_model.specs.declared.requests.Command.{Command}
+use Rattle.pm_model.specs.declared.requests.Question.{Question}
 use Rattle.pm_model.specs.declared.requests.Change.{Change}
 use Rattle.pm_model.specs.declared.requests.Change.TheVariants.{OpenSession, CloseSession, StartProcess, EndProcess}
 use Rattle.pm_model.specs.declared.requests.Request.{Request}
@@ -36,7 +39,8 @@ use Rattle.pm_laws.proofs.Items.{find-found, filter-contains}
 use Rattle.pm_laws.proofs.Resolved.{looked_up-live, resolve-named}
 use Rattle.pm_laws.proofs.Authority.{required-live}
 use Rattle.pm_laws.proofs.Live.{class-live}
-use Rattle.pm_laws.proofs.Told.{and_then-of, unless-err, IsTellable, IsTold, then-told, look_up-told, resolve-told, effect-told}
+use Rattle.pm_laws.proofs.Reviewed.{question-live, asked-live, review_of_live, reviewed-nameable}
+use Rattle.pm_laws.proofs.Told.{and_then-of, unless-err, IsTellable, IsTold, then-told, look_up-told, resolve-told, question-told, kinds-told, effect-told}
 use Rattle.pm_laws.proofs.Bodies.{acting-user, answer-is}
 
 module _ (named : ℕ → Bool) where
@@ -114,6 +118,15 @@ module _ (G : Graph) where
       (λ d is. unless-err (IsTellable named-in) (first_denied G u q (required G d)) d
       (first_denied-told u q (required G d) f (required-live G d f (resolve-named G u c d user is))))
 
+  -- the same of a review's
+  review-told : (u : ℕ) (q : Option ℕ) (question : Question) → IsWellFormed G → IsTold named-in (review_ruling G u q question)
+  review-told u q question f =
+      and_then-of (λ _. ⊤) (IsTellable named-in) (resolve_question G question) (permitted_review G u q) (question-told named-in G question)
+      (λ r is. then-told named-in (unless (first_denied G u q (required_by r)) r) (unless (first_of (review_checks G r)))
+      (unless-err (IsTellable named-in) (first_denied G u q (required_by r)) r
+      (first_denied-told u q (required_by r) f (asked-live G (subjects_of r) (question-live G question r is))))
+      (λ s. kinds-told named-in G r s))
+
 -- ---- answers
 
 -- what the answer tells is live in the state after it
@@ -171,6 +184,12 @@ body-nameable S (body.Admin q c) f =
     (λ u acts. or_refused-nameable S (ruling S.graph u (Some q) c) (λ d. entered S (raised S.graph u q d) d)
     (ruling-told S.graph u (Some q) c f (acting-user S.graph q u f acts))
     (λ d is. entered-nameable S (raised S.graph u q d) d))
+body-nameable S (body.Review q question) f =
+    or_refused-nameable S (acting S.graph q) (λ u. answer_review S u q question)
+    (acting-told (λ n. is_some (element_at S.graph.elements n)) S.graph q)
+    (λ u acts. or_refused-nameable S (review_ruling S.graph u (Some q) question) (λ r. told (reviewed S.graph r))
+    (review-told S.graph u (Some q) question f)
+    (λ r is. reviewed-nameable S.graph r f (review_of_live S.graph u (Some q) question r is)))
 
 pub answer_nameable : (S : State) (r : Request) → IsWellFormed S.graph →
     IsNameable (λ n. is_some (element_at (after S (answer S r)).graph.elements n)) (answer S r).reply

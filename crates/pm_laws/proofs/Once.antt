@@ -1,6 +1,9 @@
 -- No number of a session or of a process is told twice: a reply that tells one tells the next, which rises above it.
 use Rattle.std.proofs.Common.{◌≡◌, ◌≤◌, ◌<◌, zero, suc, ℕ, List, [], ◌∷◌, length, take, slice_get, Option, Some, None, Result, Ok, Err, refl, sym, subst, arith}
 use Rattle.std.proofs.lemmas.Option.{same_Some}
+use Rattle.pm_model.specs.Reviews.{reviewed}
+use Rattle.pm_model.specs.declared.requests.Review.{Review}
+use Rattle.pm_model.specs.declared.requests.Review.TheVariants.{Caps, Entries, Survey}
 use Rattle.pm_model.specs.State.{State, Graph, opening}
 use Rattle.pm_model.specs.Effect.{effect, changed, refusal}
 use Rattle.pm_model.specs.Made.{made_by, shown_of}
@@ -100,12 +103,18 @@ module _ (tells : ℕ → Shown) (next : Graph → ℕ) (apart : (n : ℕ) → s
     of (Ok H) many n is = absurd (cc)
     of (Err stop) many n is = absurd (cc)
 
+  -- a review tells none
+  reviewed-next : (S : State) (review : Review) → TellsNext S (told (reviewed S.graph review))
+  reviewed-next S (Caps u) fired n is = absurd (cc)
+  reviewed-next S (Entries e) fired n is = absurd (cc)
+  reviewed-next S (Survey us) fired n is = absurd (cc)
+
   answer-next : (S : State) (r : Request) → TellsNext S (answer S r)
   answer-next S r =
       answer-is (TellsNext S) S r (refused-next S (Full History)) (λ fired n is. absurd (cc))
       (body-is (TellsNext S) S r.body (λ fired n is. let same : shown.Nothing ≡ tells n = cc in absurd (apart n same)) (refused-next S)
       (λ e c. made-next S c _ e (responders S.graph (obliging S.graph c) e) (effect S.graph c) refl)
-      (λ e. granted-next S e (responders S.graph S.graph.obligations (Some e))))
+      (λ e. granted-next S e (responders S.graph S.graph.obligations (Some e))) (reviewed-next S))
 
   -- ---- over a history
 

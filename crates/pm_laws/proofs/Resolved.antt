@@ -82,7 +82,7 @@ both_looked_up-live G first second p h =
     subst (λ (q : ℕ × ℕ). IsLive G.elements q.0 × IsLive G.elements q.1) (ok-is _ (x.0, y.0) p refl y.2) both
 
 -- each name of a list
-all_looked_up-live : (G : Graph) (names : List (List ℕ)) (xs : List ℕ) → look_up_all G names ≡ Ok xs → Each (IsLive G.elements) xs
+pub all_looked_up-live : (G : Graph) (names : List (List ℕ)) (xs : List ℕ) → look_up_all G names ≡ Ok xs → Each (IsLive G.elements) xs
 all_looked_up-live G [] xs h = subst (Each (IsLive G.elements)) (ok-is (look_up_all G []) [] xs refl h) tt
 all_looked_up-live G (n ∷ ns) xs h =
     let y = and_then-ok (look_up G n) (λ y. and_then (look_up_all G ns) (λ ys. Ok (y ∷ ys))) xs h in

@@ -8,10 +8,11 @@ use Rattle.pm_model.specs.State.{Graph, number_named}
 use Rattle.pm_model.specs.RightSet.{bit_named, with_right}
 use Rattle.pm_model.specs.Sessions.{is_process}
 use Rattle.pm_model.specs.Prohibitions.{place_called}
-use Rattle.pm_model.specs.Resolve.{unused, known, look_up, look_up_both, look_up_all, look_up_rights, look_up_process, look_up_subject, prohibition, look_up_if, look_up_operation, look_up_when, obligation, resolve}
+use Rattle.pm_model.specs.Resolve.{unused, known, look_up, look_up_both, look_up_all, look_up_rights, look_up_process, look_up_subject, prohibition, look_up_if, look_up_operation, look_up_when, obligation, resolve, resolve_question}
 use Rattle.pm_model.specs.Obligations as obliged
 use Rattle.pm_model.specs.Operations.{is_operation}
 use Rattle.pm_model.specs.Effect.{checks, refusal, changed, effect}
+use Rattle.pm_model.specs.Reviews.{review_checks}
 use Rattle.pm_model.specs.Nameable.{IsRefusalNameable}
 use Rattle.pm_model.specs.Formed.{Each}
 use Rattle.pm_model.specs.declared.events.When.{When}
@@ -19,6 +20,10 @@ use Rattle.pm_model.specs.declared.requests.Command.{Command}
 use Rattle.pm_model.specs.declared.requests.Command.TheVariants as command
 use Rattle.pm_model.specs.declared.requests.Change.{Change}
 use Rattle.pm_model.specs.declared.requests.Change.TheVariants as change
+use Rattle.pm_model.specs.declared.requests.Question.{Question}
+use Rattle.pm_model.specs.declared.requests.Question.TheVariants as question
+use Rattle.pm_model.specs.declared.requests.Review.{Review}
+use Rattle.pm_model.specs.declared.requests.Review.TheVariants as review
 use Rattle.pm_model.specs.declared.prohibitions.Subject.{Subject}
 use Rattle.pm_model.specs.declared.prohibitions.Subject.TheVariants as subject
 use Rattle.pm_model.specs.declared.replies.Refusal.{Refusal}
@@ -135,6 +140,11 @@ module _ (named : ℕ → Bool) where
       then-told (known name (obliged.place_called G.obligations name)) (λ i. Ok (change.Withdraw i))
       (known-told name (obliged.place_called G.obligations name)) (λ i. tt)
 
+  pub question-told : (G : Graph) (q : Question) → IsTold (resolve_question G q)
+  question-told G (question.Caps user) = then-told (look_up G user) (λ u. Ok (review.Caps u)) (look_up-told G user) (λ u. tt)
+  question-told G (question.Entries element) = then-told (look_up G element) (λ e. Ok (review.Entries e)) (look_up-told G element) (λ e. tt)
+  question-told G (question.Survey users) = then-told (look_up_all G users) (λ us. Ok (review.Survey us)) (all-told G users) (λ us. tt)
+
   -- ---- preconditions
 
   checks-told : (G : Graph) (change : Change) → Each (λ check. IsTellable check.1) (checks G change)
@@ -157,3 +167,12 @@ module _ (named : ℕ → Bool) where
   pub effect-told : (G : Graph) (change : Change) → IsTold (effect G change)
   effect-told G change =
       unless-err IsTellable (refusal G change) (changed G change) (first_of-each IsTellable (checks G change) (checks-told G change))
+
+  -- of a review
+  review_checks-told : (G : Graph) (r : Review) → Each (λ check. IsTellable check.1) (review_checks G r)
+  review_checks-told G (review.Caps u) = (tt, tt)
+  review_checks-told G (review.Entries e) = tt
+  review_checks-told G (review.Survey us) = (tt, tt)
+
+  pub kinds-told : (G : Graph) (r s : Review) → IsTold (unless (first_of (review_checks G r)) s)
+  kinds-told G r s = unless-err IsTellable (first_of (review_checks G r)) s (first_of-each IsTellable (review_checks G r) (review_checks-told G r))

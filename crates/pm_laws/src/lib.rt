@@ -17,7 +17,8 @@ ghost use Rattle.pm_model.specs.History.{IsLegal, replay};
 ghost use Rattle.pm_model.specs.Lines.{events};
 ghost use Rattle.pm_model.specs.Recorded.{history_after, recorded_solo};
 ghost use Rattle.pm_model.specs.Solo.{solo};
-ghost use Rattle.pm_model.specs.Authority.{is_administrative, denial_in, required, ruling};
+ghost use Rattle.pm_model.specs.Authority.{is_administrative, denial_in, subjects_of, required, ruling};
+ghost use Rattle.pm_model.specs.Reviews.{numbers_in, users_in, review_ruling};
 ghost use Rattle.pm_model.specs.RightSet.{is_access_right};
 ghost use Rattle.pm_model.specs.Nameable.{IsNameable};
 ghost use Rattle.pm_model.specs.Formed.{Each, IsLive, IsUser, HasNext, IsWellFormed, IsNamed};
@@ -34,6 +35,9 @@ ghost use Rattle.pm_model.specs.declared.replies.Reply.TheVariants.{Granted};
 ghost use Rattle.pm_model.specs.declared.requests.Command.{Command};
 ghost use Rattle.pm_model.specs.declared.requests.Entry.{Entry};
 ghost use Rattle.pm_model.specs.declared.requests.Request.{Request};
+ghost use Rattle.pm_model.specs.declared.requests.Question.{Question};
+ghost use Rattle.pm_model.specs.declared.requests.Review.{Review};
+ghost use Rattle.pm_model.specs.declared.requests.Body.TheVariants as body;
 ghost use Rattle.pm_model.specs.declared.sessions.Session.{Session};
 ghost use Rattle.pm_model.specs.declared.sessions.Process.{Process};
 ghost use Rattle.pm_laws.specs.Examples.{staffed, held, made, refused, refused_at_work, refused_at_watch, watching, watch, in_use, wards, ruled, unformed};
@@ -75,6 +79,25 @@ pub fn number_of_name()
 #[tactic(auto, using(crate::proofs::Nameable::answer_nameable))]
 pub fn answer_nameable()
     ensures { (S : State) (r : Request) → IsWellFormed S.graph → IsNameable (λ n. is_some (element_at (after S (answer S r)).graph.elements n)) (answer S r).reply }
+{}
+
+/// The elements and the users that a review of a well formed graph asks about are live.
+#[tactic(auto, using(crate::proofs::Reviewed::elements_live, crate::proofs::Reviewed::users_live))]
+pub fn numbers_live()
+    ensures elements { (G : Graph) → IsWellFormed G → Each (IsLive G.elements) (numbers_in G.elements) }
+    ensures users { (G : Graph) → IsWellFormed G → Each (IsLive G.elements) (users_in G.elements) }
+{}
+
+/// What a review that is allowed is of is live.
+#[tactic(auto, using(crate::proofs::Reviewed::review_of_live))]
+pub fn review_of_live()
+    ensures { (G : Graph) (u : ℕ) (q : Option ℕ) (question : Question) (r : Review) → review_ruling G u q question ≡ Ok r → Each (IsLive G.elements) (subjects_of r) }
+{}
+
+/// A review is no entry, whatever its answer: it leaves the state.
+#[tactic(auto, using(crate::proofs::Reviewed::review_is_no_entry))]
+pub fn review_is_no_entry()
+    ensures { (S : State) (after : Option ℕ) (q : ℕ) (question : Question) → (answer S (record { after = after; body = body.Review q question })).next ≡ None }
 {}
 
 /// An assignment joins live elements, of kinds that may be assigned.

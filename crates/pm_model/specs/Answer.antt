@@ -10,9 +10,10 @@ use Rattle.pm_model.specs.Resolve.{look_up}
 use Rattle.pm_model.specs.Responses.{Stopped, responses}
 use Rattle.pm_model.specs.declared.events.Event.{Event}
 use Rattle.pm_model.specs.declared.obligations.Obligation.{Obligation}
+use Rattle.pm_model.specs.declared.requests.Question.{Question}
 use Rattle.pm_model.specs.declared.requests.Request.{Request}
 use Rattle.pm_model.specs.declared.requests.Body.{Body}
-use Rattle.pm_model.specs.declared.requests.Body.TheVariants.{Version, OpenSession, CloseSession, StartProcess, EndProcess, Access, Admin}
+use Rattle.pm_model.specs.declared.requests.Body.TheVariants.{Version, OpenSession, CloseSession, StartProcess, EndProcess, Access, Admin, Review}
 use Rattle.pm_model.specs.declared.requests.Change.{Change}
 use Rattle.pm_model.specs.declared.requests.Change.TheVariants as change
 use Rattle.pm_model.specs.declared.replies.Refusal.{Refusal}
@@ -22,6 +23,7 @@ use Rattle.pm_model.specs.declared.replies.Shown.TheVariants.{Nothing}
 use Rattle.pm_model.specs.Made.{made_by, shown_of}
 use Rattle.pm_model.specs.Sessions.{user_of}
 use Rattle.pm_model.specs.Authority.{denial_in, ruling}
+use Rattle.pm_model.specs.Reviews.{review_ruling, reviewed}
 use Rattle.pm_model.specs.RightSet.{bit_named, is_access_right}
 use Rattle.pm_model.specs.declared.replies.Table.TheVariants.{History}
 use Rattle.pm_model.specs.declared.replies.Reply.{Reply}
@@ -104,6 +106,9 @@ administered S u q change = or_refused change (λ c. entered S (raised S.graph u
 abbrev pub answer_access : State → ℕ → ℕ → List ℕ → List ℕ → Answer
 answer_access S u q right target = or_refused (accessed S.graph u q right target) (λ t. granted S (event u q right t))
 
+abbrev pub answer_review : State → ℕ → ℕ → Question → Answer
+answer_review S u q question = or_refused (review_ruling S.graph u (Some q) question) (λ r. told (reviewed S.graph r))
+
 abbrev pub answer_body : State → Body → Answer
 answer_body S Version = told (Done 0 Nothing)
 answer_body S (OpenSession user) = or_refused (look_up S.graph user) (λ u. entered S None (change.OpenSession u))
@@ -112,6 +117,7 @@ answer_body S (StartProcess session) = entered S None (change.StartProcess sessi
 answer_body S (EndProcess process) = entered S None (change.EndProcess process)
 answer_body S (Access q right target) = or_refused (acting S.graph q) (λ u. answer_access S u q right target)
 answer_body S (Admin q command) = or_refused (acting S.graph q) (λ u. administered S u q (ruling S.graph u (Some q) command))
+answer_body S (Review q question) = or_refused (acting S.graph q) (λ u. answer_review S u q question)
 
 abbrev pub is_ahead : Option ℕ → ℕ → Bool
 is_ahead None version = false

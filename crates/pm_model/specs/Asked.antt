@@ -5,7 +5,7 @@ use Rattle.std.specs.Str.{is_utf8}
 use Rattle.serde_json.specs.Data.{Data}
 use Rattle.serde_json.specs.Read.{read}
 use Rattle.serde_json.specs.Find.{as_str}
-use Rattle.pm_model.specs.Forms.{name_form, whole_form, short_form, rights_form, list_form, if_few_beside, mode_form, subject_form, looking}
+use Rattle.pm_model.specs.Forms.{name_form, whole_form, short_form, rights_form, listed_form, list_form, if_few_beside, mode_form, subject_form, looking}
 use Rattle.pm_model.specs.ResponseForms.{do_form, when_form}
 use Rattle.pm_model.specs.declared.actions.Action.{Action}
 use Rattle.pm_model.specs.declared.events.When.{When}
@@ -22,6 +22,8 @@ use Rattle.pm_model.specs.declared.requests.Command.{Command}
 use Rattle.pm_model.specs.declared.requests.Command.TheVariants as command
 use Rattle.pm_model.specs.declared.prohibitions.Mode.{Mode}
 use Rattle.pm_model.specs.declared.prohibitions.Subject.{Subject}
+use Rattle.pm_model.specs.declared.requests.Question.{Question}
+use Rattle.pm_model.specs.declared.requests.Question.TheVariants as question
 use Rattle.pm_model.specs.declared.requests.Body.{Body}
 use Rattle.pm_model.specs.declared.requests.Body.TheVariants as body
 use Rattle.pm_model.specs.declared.requests.Request.{Request}
@@ -157,6 +159,22 @@ module _ (look : List ℕ → Option Data) where
   abbrev pub admin_of : Result Command BadLine → Result Body BadLine
   admin_of command = and_then process_of (λ process. and_then command (λ c. Ok (body.Admin process c)))
 
+  abbrev pub caps_of : Result Question BadLine
+  caps_of = and_then (name_at key.User) (λ user. Ok (question.Caps user))
+
+  abbrev pub entries_of : Result Question BadLine
+  entries_of = and_then (name_at key.Element) (λ element. Ok (question.Entries element))
+
+  -- a list of 1 to 32 names, as it stands
+  abbrev pub users_at : Result (List (List ℕ)) BadLine
+  users_at = required key.Users (option_and_then listed_form (look (key_text key.Users)))
+
+  abbrev pub survey_of : Result Question BadLine
+  survey_of = and_then users_at (λ users. Ok (question.Survey users))
+
+  abbrev pub review_of : Result Question BadLine → Result Body BadLine
+  review_of asks = and_then process_of (λ process. and_then asks (λ q. Ok (body.Review process q)))
+
   -- the row of the word, where it is a command's
   abbrev pub row_of : List ℕ → Option (Result Body BadLine)
   row_of w =
@@ -181,7 +199,10 @@ module _ (look : List ℕ → Option Data) where
       else (if bytes_eq w (word_text word.Oblige) then Some (admin_of oblige_of)
       else (if bytes_eq w (word_text word.Withdraw) then Some (admin_of withdraw_of)
       else (if bytes_eq w (word_text word.Access) then Some access_of
-      else None))))))))))))))))))))
+      else (if bytes_eq w (word_text word.Caps) then Some (review_of caps_of)
+      else (if bytes_eq w (word_text word.Entries) then Some (review_of entries_of)
+      else (if bytes_eq w (word_text word.Survey) then Some (review_of survey_of)
+      else None)))))))))))))))))))))))
 
   -- `id`, `after`, then the fields of the row
   abbrev pub with_head : Result Body BadLine → Result Request BadLine

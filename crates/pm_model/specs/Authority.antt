@@ -1,5 +1,6 @@
--- What a command asks of whoever gives it: capabilities, each a right on an element, in order. Source: the standard's
--- access rights for administration; which command asks for which is the project's own. One clause for each change.
+-- What a command or a review asks of whoever gives it: capabilities, each a right on an element, in order. Source: the
+-- standard's access rights for administration; which command asks for which is the project's own. One clause for each
+-- change.
 use Rattle.std.specs.Prelude.{ℕ, Bool, ◌==◌, ◌&&◌, nat_le, if◌then◌else◌, List, [], ◌∷◌, ◌++◌, map, Option, None, Some, unwrap_or, slice_get, Result}
 use Rattle.pm_model.specs.Results.{and_then, unless}
 use Rattle.pm_model.specs.State.{Graph, root, classes_in}
@@ -17,6 +18,8 @@ use Rattle.pm_model.specs.declared.prohibitions.Subject.TheVariants as subject
 use Rattle.pm_model.specs.declared.requests.Command.{Command}
 use Rattle.pm_model.specs.declared.requests.Change.{Change}
 use Rattle.pm_model.specs.declared.requests.Change.TheVariants as change
+use Rattle.pm_model.specs.declared.requests.Review.{Review}
+use Rattle.pm_model.specs.declared.requests.Review.TheVariants as review
 use Rattle.pm_model.specs.declared.replies.Reason.{Reason}
 use Rattle.pm_model.specs.declared.replies.Reason.TheVariants as reason
 use Rattle.pm_model.specs.declared.replies.Refusal.{Refusal}
@@ -62,6 +65,9 @@ to_prohibit_to = 14
 abbrev pub to_oblige : ℕ
 to_oblige = 15
 
+abbrev pub to_review : ℕ
+to_review = 16
+
 -- the policy class of the opening, on which is asked for what has no container, and what waits for events on any target
 abbrev pub pm : ℕ
 pm = 0
@@ -102,6 +108,16 @@ required G (change.Oblige o) = watched_at o.pattern
 required G (change.Withdraw i) = obliged_at (slice_get G.obligations i)
 required G (change.DefineRight name) = (right_to_create Pc, pm) ∷ []
 required G _ = []
+
+-- the elements that a review is of
+abbrev pub subjects_of : Review → List ℕ
+subjects_of (review.Caps u) = u ∷ []
+subjects_of (review.Entries e) = e ∷ []
+subjects_of (review.Survey us) = us
+
+-- what it asks for: to review each of them
+abbrev pub required_by : Review → List (ℕ × ℕ)
+required_by review = map (λ n. (to_review, n)) (subjects_of review)
 
 -- ---- allowed
 

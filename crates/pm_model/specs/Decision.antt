@@ -74,6 +74,11 @@ module _ (below : ℕ → ℕ → Bool) where
   abbrev pub rights_on : List Association → List Prohibition → List ℕ → ℕ → ℕ → ℕ
   rights_on associations prohibitions classes u e = from_bits (has_right_on associations prohibitions classes u e) 64
 
+-- what a judge goes by: which elements are live, and the set of the rights that a user has on an element
+pub record Judgement : Type 0 where
+  pub live : ℕ → Bool
+  pub rights : ℕ → ℕ → ℕ
+
 abbrev pub is_grantee : ℕ → Grantee → Bool
 is_grantee ua g = g.ua == ua
 

@@ -24,6 +24,7 @@ pub mod Resolve
 pub mod ResponseForms
 pub mod Responses
 pub mod Results
+pub mod Reviews
 pub mod RightSet
 pub mod Sessions
 pub mod Solo

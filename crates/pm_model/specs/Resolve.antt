@@ -1,5 +1,5 @@
--- A command's names as numbers, in the order of its fields: the first name or number that is unknown is told. The
--- project's own. One clause for each command.
+-- The names of a command or a question as numbers, in the order of its fields: the first name or number that is unknown is
+-- told. The project's own. One clause for each command.
 use Rattle.std.specs.Prelude.{ℕ, ◌+◌, ◌==◌, List, [], ◌∷◌, Option, None, Some, if◌then◌else◌, Result, Ok, Err}
 use Rattle.std.specs.List.{list_any}
 use Rattle.pm_model.specs.Results.{and_then}
@@ -10,6 +10,10 @@ use Rattle.pm_model.specs.declared.requests.Command.{Command}
 use Rattle.pm_model.specs.declared.requests.Command.TheVariants as command
 use Rattle.pm_model.specs.declared.requests.Change.{Change}
 use Rattle.pm_model.specs.declared.requests.Change.TheVariants as change
+use Rattle.pm_model.specs.declared.requests.Question.{Question}
+use Rattle.pm_model.specs.declared.requests.Question.TheVariants as question
+use Rattle.pm_model.specs.declared.requests.Review.{Review}
+use Rattle.pm_model.specs.declared.requests.Review.TheVariants as review
 use Rattle.pm_model.specs.RightSet.{bit_named, with_right}
 use Rattle.pm_model.specs.Sessions.{is_process}
 use Rattle.pm_model.specs.Operations.{is_operation}
@@ -103,3 +107,8 @@ resolve G u (command.Lift name) = and_then (known name (place_called G.prohibiti
 resolve G u (command.DefineRight name) = Ok (change.DefineRight name)
 resolve G u (command.Oblige name when response) = and_then (look_up_when G when) (λ pattern. Ok (change.Oblige (obligation name u pattern response)))
 resolve G u (command.Withdraw name) = and_then (known name (obliged.place_called G.obligations name)) (λ i. Ok (change.Withdraw i))
+
+abbrev pub resolve_question : Graph → Question → Result Review Refusal
+resolve_question G (question.Caps user) = and_then (look_up G user) (λ u. Ok (review.Caps u))
+resolve_question G (question.Entries element) = and_then (look_up G element) (λ e. Ok (review.Entries e))
+resolve_question G (question.Survey users) = and_then (look_up_all G users) (λ us. Ok (review.Survey us))

@@ -1,7 +1,9 @@
 -- The line of a reply: an object with these members, a row for each reply. The project's own.
-use Rattle.std.specs.Prelude.{ℕ, List, [], ◌∷◌, ◌++◌, ◌==◌, if◌then◌else◌, Option, None, Some}
-use Rattle.serde_json.specs.Data.{Data}
-use Rattle.pm_model.specs.Object.{line_of, whole, whole_if, texted}
+use Rattle.std.specs.Prelude.{ℕ, List, [], ◌∷◌, ◌++◌, ◌==◌, false, if◌then◌else◌, map, Option, None, Some}
+use Rattle.std.specs.Fmt.{digits}
+use Rattle.std.specs.List.{zip}
+use Rattle.serde_json.specs.Data.{Data, number, unsigned, string}
+use Rattle.pm_model.specs.Object.{line_of, listed, whole, whole_if, texted}
 use Rattle.pm_model.specs.Words.{key_text, word_text}
 use Rattle.pm_model.specs.declared.words.Key.TheVariants as key
 use Rattle.pm_model.specs.declared.words.Word.{Word}
@@ -14,9 +16,10 @@ use Rattle.pm_model.specs.declared.replies.Refusal.TheVariants as refusal
 use Rattle.pm_model.specs.declared.replies.Table.{Table}
 use Rattle.pm_model.specs.declared.replies.Table.TheVariants.{Elements, Assignments, Associations, Prohibitions, Obligations, Sessions, Processes, Rights, History}
 use Rattle.pm_model.specs.declared.replies.Reply.{Reply}
-use Rattle.pm_model.specs.declared.replies.Reply.TheVariants.{Done, Granted, Bad, Ahead, Refused, ResponseRefused}
+use Rattle.pm_model.specs.declared.replies.Reply.TheVariants.{Done, Granted, Caps, Entries, Survey, Bad, Ahead, Refused, ResponseRefused, KeepFault}
 use Rattle.pm_model.specs.declared.replies.Reason.{Reason}
 use Rattle.pm_model.specs.declared.replies.Reason.TheVariants.{Class, Prohibition}
+use Rattle.pm_model.specs.declared.reviews.Pair.{Pair}
 use Rattle.pm_model.specs.declared.replies.Shown.{Shown}
 use Rattle.pm_model.specs.declared.replies.Shown.TheVariants as shown
 
@@ -137,14 +140,41 @@ response_front h obligation action why =
     (key_text key.Action, whole action) ∷ (key_text key.Id, whole_if h.id) ∷ (key_text key.No, said word.ResponseRefused)
     ∷ (key_text key.Obligation, texted obligation) ∷ []
 
+-- a set of rights: its number in hexadecimal digits, the lower-case ones
+abbrev pub rights_text : ℕ → List ℕ
+rights_text rights = digits 16 false rights
+
+-- a name and a set of rights
+abbrev pub pair_told : (ℕ → List ℕ) → Pair → Data
+pair_told names p = listed (string (names p.element) ∷ string (rights_text p.rights) ∷ [])
+
+-- a name and a number
+abbrev pub count_told : (ℕ → List ℕ) → (ℕ × ℕ) → Data
+count_told names c = listed (string (names c.0) ∷ number (unsigned c.1) ∷ [])
+
+-- a review that tells who has rights on what
+abbrev pub list_front : Head → (ℕ → List ℕ) → Word → List Pair → List (List ℕ × Option Data)
+list_front h names what list =
+    (key_text key.Id, whole_if h.id) ∷ (key_text key.List, Some (listed (map (pair_told names) list))) ∷ (key_text key.Ok, said what) ∷ []
+
+-- one that tells how much each of several users may do
+abbrev pub survey_front : Head → (ℕ → List ℕ) → List ℕ → List ℕ → List (List ℕ × Option Data)
+survey_front h names users counts =
+    (key_text key.Counts, Some (listed (map (count_told names) (zip users counts)))) ∷ (key_text key.Id, whole_if h.id)
+    ∷ (key_text key.Ok, said word.Survey) ∷ []
+
 -- the members before `v`, in alphabetical order
 abbrev pub front : Head → (ℕ → List ℕ) → Reply → List (List ℕ × Option Data)
 front h names (Done fired made) = done_front h fired made
 front h names (Granted fired) = granted_front h fired
+front h names (Caps list) = list_front h names word.Caps list
+front h names (Entries list) = list_front h names word.Entries list
+front h names (Survey users counts) = survey_front h names users counts
 front h names (Bad bad) = bad_front h bad
 front h names Ahead = no_front h word.Ahead
 front h names (Refused why) = refusal_front h names why
 front h names (ResponseRefused obligation action why) = response_front h obligation action why
+front h names KeepFault = no_front h word.KeepFault
 
 -- the member behind the version: the word of the reason for which a response is refused
 abbrev pub back : Reply → List (List ℕ × Option Data)

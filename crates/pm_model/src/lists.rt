@@ -141,3 +141,6 @@ pub type PlaceList = ItemList<ElementId>;
 
 /// The live policy classes, by rising number.
 pub type ClassList = ItemList<ElementId>;
+
+/// A list of users.
+pub type UserList = ItemList<ElementId>;

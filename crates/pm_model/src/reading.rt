@@ -1,17 +1,17 @@
 //! What a decision asks of a state, as traits.
 
-ghost use Rattle.std.specs.Prelude.{◌≡◌, ℕ, Bool, true, ◌<◌, ◌≤◌, ◌+◌, ◌*◌, ◌==◌, List, [], ◌∷◌, length, slice_get, take, drop, filter, Some, IsTrue, All};
+ghost use Rattle.std.specs.Prelude.{◌≡◌, ℕ, Bool, true, ◌<◌, ◌≤◌, ◌+◌, ◌*◌, ◌^◌, ◌==◌, List, [], ◌∷◌, length, slice_get, take, drop, filter, Some, IsTrue, All};
 ghost use Rattle.std.specs.Int.{bit_at};
 ghost use Rattle.std.specs.List.{list_any};
 ghost use Rattle.pm_model.specs.Containment.{Relation, containers};
-ghost use Rattle.pm_model.specs.Decision.{is_grantee};
+ghost use Rattle.pm_model.specs.Decision.{Judgement, is_grantee};
 ghost use Rattle.pm_model.specs.declared.rights.Grantee.{Grantee};
 ghost use Rattle.pm_model.specs.declared.prohibitions.Prohibition.{Prohibition};
 
 use crate::elements::ElementId;
 use crate::names::Name;
 use crate::prohibitions::Prohibition;
-use crate::rights::Grantee;
+use crate::rights::{Grantee, Rights};
 
 /// Containment, however it is kept. A question takes no memory.
 pub trait Reach {
@@ -97,6 +97,25 @@ pub trait Bars {
         requires { i < length (prohibitions self.now) }
         ensures items { result.now ≡ take (length result.now) (drop i (prohibitions self.now)) }
         ensures some { 0 < length result.now };
+}
+
+/// The rights of users on elements, however they are found, and how often they were asked for. A question takes no
+/// memory.
+pub trait Judge {
+    /// Which elements are live, and the rights of each user on each element.
+    ghost judgement: { Self → Judgement };
+
+    /// How many questions it was asked.
+    ghost asked: { Self → ℕ };
+
+    /// The rights that the user has on the element. Both are live.
+    fn judge(&mut self, user: ElementId, element: ElementId) -> Rights
+        requires user_live { IsTrue ((judgement self.old).live user) }
+        requires element_live { IsTrue ((judgement self.old).live element) }
+        requires room { asked self.old + 1 < 2 ^ 64 }
+        ensures answer { result ≡ (judgement self.old).rights user element }
+        ensures counted { asked self.new ≡ asked self.old + 1 }
+        ensures same { judgement self.new ≡ judgement self.old };
 }
 
 /// The names of live elements.

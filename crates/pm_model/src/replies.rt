@@ -2,7 +2,9 @@
 
 use crate::elements::ElementId;
 use crate::lines::BadLine;
+use crate::lists::UserList;
 use crate::names::Name;
+use crate::reviews::{CountList, PairList};
 
 /// What has a limit.
 #[derive(Clone, Copy, Debug, PartialEq, Eq)]
@@ -116,6 +118,20 @@ pub enum Reply {
     Granted {
         fired: u32,
     },
+    /// What a user may do: the elements on which the user has rights, with these, by rising number.
+    Caps {
+        list: PairList,
+    },
+    /// Who may do something to an element: the users who have rights on it, with these, by rising number.
+    Entries {
+        list: PairList,
+    },
+    /// How much each of several users may do, in the order in which they were asked for: of each of the users the count
+    /// at the same place.
+    Survey {
+        users: UserList,
+        counts: CountList,
+    },
     /// The line is no request.
     Bad(BadLine),
     /// The request names a version that the machine hasn't reached.
@@ -128,4 +144,6 @@ pub enum Reply {
         action: u32,
         why: Refusal,
     },
+    /// The machine would accept the request, and the keeper of accepted requests has failed. The machine's state stays.
+    KeepFault,
 }

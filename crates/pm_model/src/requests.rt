@@ -5,7 +5,7 @@ ghost use Rattle.std.specs.Prelude.{◌≡◌, IfOk};
 use crate::elements::{ElementId, Kind};
 use crate::events::Awaited;
 use crate::lines::BadLine;
-use crate::lists::NameList;
+use crate::lists::{NameList, UserList};
 use crate::memory::Memory;
 use crate::names::Name;
 use crate::obligations::{Obligation, Response};
@@ -198,6 +198,40 @@ pub enum Change {
     },
 }
 
+/// What a review asks, as a line names it.
+#[derive(Drop)]
+pub enum Question {
+    /// What the user may do: on which elements the user has rights, and which.
+    Caps { user: Name },
+    /// Who may do something to the element: which users have rights on it, and which.
+    Entries { element: Name },
+    /// How much each of the users may do, in the order of the list: how many rights on how many elements.
+    Survey { users: NameList },
+}
+
+impl Question {
+    /// The same question once more.
+    pub fn copy(&self) -> Result<Question, Memory>
+        ensures { IfOk result (λ same. same ≡ self.now) }
+    {
+        Ok(match self {
+            Question::Caps { user } => Question::Caps { user: *user },
+            Question::Entries { element } => Question::Entries { element: *element },
+            Question::Survey { users } => Question::Survey {
+                users: users.copy()?,
+            },
+        })
+    }
+}
+
+/// A review: a question with its names resolved to numbers.
+#[derive(Drop)]
+pub enum Review {
+    Caps { user: ElementId },
+    Entries { element: ElementId },
+    Survey { users: UserList },
+}
+
 /// What a request asks for.
 #[derive(Drop)]
 pub enum Body {
@@ -229,6 +263,11 @@ pub enum Body {
         process: u32,
         command: Command,
     },
+    /// A question by a process, for the user whose process it is.
+    Review {
+        process: u32,
+        question: Question,
+    },
 }
 
 impl Body {
@@ -254,6 +293,10 @@ impl Body {
             Body::Admin { process, command } => Body::Admin {
                 process: *process,
                 command: command.copy()?,
+            },
+            Body::Review { process, question } => Body::Review {
+                process: *process,
+                question: question.copy()?,
             },
         })
     }
@@ -287,6 +330,20 @@ pub struct Entry {
     /// Which entry of its seat it is, from 1.
     pub nth: u64,
     pub request: Request,
+}
+
+impl Entry {
+    /// The same entry once more.
+    pub fn copy(&self) -> Result<Entry, Memory>
+        ensures { IfOk result (λ same. same ≡ self.now) }
+    {
+        let request = self.request.copy()?;
+        Ok(Entry {
+            seat: self.seat,
+            nth: self.nth,
+            request,
+        })
+    }
 }
 
 /// What a line asks: a request, or nothing, for a reason.

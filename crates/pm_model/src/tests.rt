@@ -1,8 +1,8 @@
 //! Each call that takes memory, with ample memory: what it answers.
 
 use crate::{
-    Body, Command, ElementId, ItemList, Mode, Name, NameList, PlaceList, Prohibition, Request,
-    Rights, Subject,
+    Body, Command, ElementId, Entry, ItemList, Mode, Name, NameList, PlaceList, Prohibition,
+    Question, Request, Rights, Subject,
 };
 use std::alloc::Global;
 use std::process::Abort;
@@ -70,7 +70,7 @@ fn check_association(rt: &impl Abort, command: &Command) {
 }
 
 #[test]
-fn a_request_is_copied(rt: HostRuntime) -> Result<(), Fail> {
+fn an_entry_and_its_request_are_copied(rt: HostRuntime) -> Result<(), Fail> {
     let command = Command::Associate {
         ua: name(&rt, "staff"),
         rights: names(&rt, &["read", "write"])?,
@@ -83,12 +83,48 @@ fn a_request_is_copied(rt: HostRuntime) -> Result<(), Fail> {
             command,
         },
     };
-    let same = request.copy()?;
-    assert_eq!(rt; same.after, Some(7));
-    match &same.body {
+    let entry = Entry {
+        seat: 3,
+        nth: 4,
+        request: request.copy()?,
+    };
+    let same = entry.copy()?;
+    assert_eq!(rt; (same.seat, same.nth), (3, 4));
+    assert_eq!(rt; same.request.after, Some(7));
+    match &same.request.body {
         Body::Admin { process, command } => {
             assert_eq!(rt; *process, 2);
             check_association(&rt, command);
+        }
+        _ => assert!(rt; false, "another body"),
+    }
+    Ok(())
+}
+
+fn check_survey(rt: &impl Abort, question: &Question) {
+    match question {
+        Question::Survey { users } => {
+            assert_eq!(rt; users.len(), 3);
+            assert_eq!(rt; users.at(2).bytes(), b"ann".as_slice());
+        }
+        _ => assert!(rt; false, "another question"),
+    }
+}
+
+#[test]
+fn a_question_is_copied(rt: HostRuntime) -> Result<(), Fail> {
+    let question = Question::Survey {
+        users: names(&rt, &["ann", "root", "ann"])?,
+    };
+    let body = Body::Review {
+        process: 3,
+        question,
+    };
+    let same = body.copy()?;
+    match &same {
+        Body::Review { process, question } => {
+            assert_eq!(rt; *process, 3);
+            check_survey(&rt, question);
         }
         _ => assert!(rt; false, "another body"),
     }

@@ -35,31 +35,6 @@ fn start_many(table: &mut Procs, session: u32, count: u32) -> Result<(), ProcsEr
 }
 
 #[test]
-fn opens_with_a_session_and_a_process_of_root(rt: HostRuntime) -> Result<(), Fail> {
-    let table = Procs::opening(rt.alloc())?;
-    assert!(rt; table.session_live(0));
-    assert!(rt; table.has_session(ROOT));
-    assert_eq!(rt; table.process_at(0), Some((0, 0)));
-    assert_eq!(rt; table.process_at(1), None);
-    assert_eq!(rt; table.user_of(0), Some(ROOT));
-    Ok(())
-}
-
-#[test]
-fn numbers_are_not_given_again(rt: HostRuntime) -> Result<(), Fail> {
-    let mut table = Procs::opening(rt.alloc())?;
-    assert_eq!(rt; table.open_session(ANN), Ok(1));
-    assert_eq!(rt; table.start_process(1), Ok(1));
-    assert_eq!(rt; table.end_process(1), Ok(()));
-    assert_eq!(rt; table.start_process(1), Ok(2));
-    assert_eq!(rt; table.close_session(1), Ok(()));
-    assert_eq!(rt; table.open_session(ANN), Ok(2));
-    assert_eq!(rt; table.start_process(2), Ok(3));
-    assert_eq!(rt; table.user_of(3), Some(ANN));
-    Ok(())
-}
-
-#[test]
 fn a_session_takes_its_processes_along(rt: HostRuntime) -> Result<(), Fail> {
     let mut table = Procs::opening(rt.alloc())?;
     open_many(&mut table, ANN, 2)?;
@@ -68,7 +43,11 @@ fn a_session_takes_its_processes_along(rt: HostRuntime) -> Result<(), Fail> {
     start_many(&mut table, 1, 1)?;
     let of_one = table.processes_of(1)?;
     assert_eq!(rt; of_one.as_slice(), [1, 2, 4].as_slice());
+    assert!(rt; table.session_live(1));
+    assert_eq!(rt; table.check_close(1), Ok(()));
     table.close_session(1)?;
+    assert_eq!(rt; table.check_start(1), Err(ProcsError::Absent));
+    assert_eq!(rt; table.check_end(0), Err(ProcsError::Builtin));
     for (i, want) in [(0, Some((0, 0))), (1, Some((3, 2))), (2, None)] {
         assert_eq!(rt; table.process_at(i), want, "at {i}");
     }
@@ -81,72 +60,6 @@ fn a_session_takes_its_processes_along(rt: HostRuntime) -> Result<(), Fail> {
     ] {
         assert_eq!(rt; table.user_of(process), user, "{process}");
     }
-    let of_none = table.processes_of(1)?;
-    assert_eq!(rt; of_none.len(), 0);
-    Ok(())
-}
-
-#[test]
-fn one_process_ends_and_the_others_stay(rt: HostRuntime) -> Result<(), Fail> {
-    for (ended, left) in [
-        (1, [(0, 0), (2, 0), (3, 0)]),
-        (2, [(0, 0), (1, 0), (3, 0)]),
-        (3, [(0, 0), (1, 0), (2, 0)]),
-    ] {
-        let mut table = Procs::opening(rt.alloc())?;
-        start_many(&mut table, 0, 3)?;
-        table.end_process(ended)?;
-        for i in 0..3 {
-            assert_eq!(rt;
-                table.process_at(i),
-                Some(left[i]),
-                "without {ended}, at {i}"
-            );
-        }
-        assert_eq!(rt; table.process_at(3), None, "without {ended}");
-        assert!(rt; !table.process_live(ended));
-    }
-    Ok(())
-}
-
-#[test]
-fn what_stands_from_the_opening_stays(rt: HostRuntime) -> Result<(), Fail> {
-    let mut table = Procs::opening(rt.alloc())?;
-    assert_eq!(rt; table.check_close(0), Err(ProcsError::Builtin));
-    assert_eq!(rt; table.close_session(0), Err(ProcsError::Builtin));
-    assert_eq!(rt; table.check_end(0), Err(ProcsError::Builtin));
-    assert_eq!(rt; table.end_process(0), Err(ProcsError::Builtin));
-    assert_eq!(rt; table.user_of(0), Some(ROOT));
-    Ok(())
-}
-
-#[test]
-fn what_is_not_live_is_absent(rt: HostRuntime) -> Result<(), Fail> {
-    let mut table = Procs::opening(rt.alloc())?;
-    open_many(&mut table, ANN, 2)?;
-    start_many(&mut table, 2, 2)?;
-    table.close_session(1)?;
-    table.end_process(1)?;
-    for number in [1, 3, 4294967295] {
-        assert_eq!(rt;
-            table.close_session(number),
-            Err(ProcsError::Absent),
-            "{number}"
-        );
-        assert_eq!(rt;
-            table.check_start(number),
-            Err(ProcsError::Absent),
-            "{number}"
-        );
-        assert_eq!(rt;
-            table.end_process(number),
-            Err(ProcsError::Absent),
-            "{number}"
-        );
-        assert_eq!(rt; table.user_of(number), None, "{number}");
-    }
-    assert_eq!(rt; table.check_close(2), Ok(()));
-    assert_eq!(rt; table.check_end(2), Ok(()));
     Ok(())
 }
 
@@ -178,37 +91,4 @@ fn errors_are_told_as_refusals(rt: HostRuntime) {
     assert!(rt; matches!(builtin, ChangeError::Refused(Refusal::Builtin)));
     let memory = change_error(ProcsError::Memory, Refusal::UnknownProcess);
     assert!(rt; matches!(memory, ChangeError::Memory));
-}
-
-#[test]
-fn holds_4096_sessions(rt: HostRuntime) -> Result<(), Fail> {
-    let full = Err(ProcsError::Full(Table::Sessions));
-    let mut table = Procs::opening(rt.alloc())?;
-    open_many(&mut table, ANN, 4094)?;
-    assert_eq!(rt; table.open_session(ANN), Ok(4095));
-    assert_eq!(rt; table.check_open(), full);
-    assert!(rt; table.open_session(ANN).is_err());
-    assert!(rt; table.session_live(4095));
-    assert!(rt; !table.session_live(4096));
-    table.close_session(1)?;
-    assert_eq!(rt; table.check_open(), Ok(()));
-    Ok(())
-}
-
-#[test]
-fn holds_16384_processes(rt: HostRuntime) -> Result<(), Fail> {
-    let full = Err(ProcsError::Full(Table::Processes));
-    let mut table = Procs::opening(rt.alloc())?;
-    open_many(&mut table, ANN, 1)?;
-    start_many(&mut table, 1, 16382)?;
-    assert_eq!(rt; table.start_process(0), Ok(16383));
-    assert_eq!(rt; table.check_start(1), full);
-    assert!(rt; table.start_process(1).is_err());
-    assert_eq!(rt; table.check_start(2), Err(ProcsError::Absent));
-    assert_eq!(rt; table.user_of(16382), Some(ANN));
-    assert_eq!(rt; table.user_of(16383), Some(ROOT));
-    table.close_session(1)?;
-    assert_eq!(rt; table.process_at(1), Some((16383, 0)));
-    assert_eq!(rt; table.check_start(0), Ok(()));
-    Ok(())
 }

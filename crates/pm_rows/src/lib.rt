@@ -12,6 +12,7 @@ ghost use Rattle.pm_rows.specs.Denials.{denial_rows};
 ghost use Rattle.pm_rows.specs.Forms.{form_rows};
 ghost use Rattle.pm_rows.specs.Obligations.{obligation_rows};
 ghost use Rattle.pm_rows.specs.Responses.{Responds, Awaits, responses, awaited};
+ghost use Rattle.pm_rows.specs.Reviews.{review_rows};
 ghost use Rattle.pm_rows.specs.Cases.{kinds, pairs_of, assigned_kinds, associated_kinds, ranges, Covers, bytes_from, name_bytes, IsCutAt};
 
 /// The definitions give each row's replies to its lines.
@@ -32,6 +33,11 @@ pub fn forms_hold()
 /// They give them in the rows on obligations.
 pub fn obligations_hold()
     ensures { Hold obligation_rows }
+{}
+
+/// They give them in the rows on reviews.
+pub fn reviews_hold()
+    ensures { Hold review_rows }
 {}
 
 /// What the responses of obligations read as, and what they wait for.

@@ -3,6 +3,7 @@ ghost use Rattle.std.specs.Prelude.{◌≡◌, ◌↔◌, ◌≤◌, ◌<◌, �
 ghost use Rattle.pm_model.specs.Lines.{shape, cut};
 ghost use Rattle.pm_model.specs.Nameable.{IsNameable};
 ghost use Rattle.pm_model.specs.Text.{text, bad_text};
+ghost use Rattle.pm_json.specs.Growth.{reply_most};
 
 use crate::waiting::{LONGEST, ROOM, line_at, part, push_bytes, remove_front};
 use pm_json::{LONGEST_REPLY, print_bad, print_reply};
@@ -95,15 +96,16 @@ impl Session {
         Some(LineEvent::Line(line))
     }
 
-    /// Whether the output has the capacity for 1,024 bytes more, which any reply fits in.
+    /// Whether the output has the capacity for 1,024 bytes more, which any reply fits in but one with a list.
     pub fn has_room(&self) -> bool
         ensures { IsTrue result ↔ length self.now.output + LONGEST_REPLY ≤ self.now.capacity }
     {
         self.output.capacity() - self.output.len() >= LONGEST_REPLY
     }
 
-    /// Appends the line of the reply to the output. On Memory all is as before; where the output has
-    /// the capacity for 1,024 bytes more it is Ok. `names` is as in `print_reply`.
+    /// Appends the line of the reply to the output. On Memory all is as before; it is Ok where the output has
+    /// the capacity for 1,024 bytes more, and for 90 more with each item of a review's list. `names` is as in
+    /// `print_reply`.
     pub fn reply<N: NameOf>(
         &mut self,
         id: Option<u64>,
@@ -114,7 +116,7 @@ impl Session {
         requires { IsNameable (N.named names.now) reply.now }
         ensures ok { OnOk result (self.new.output ≡ self.old.output ++ text id version (N.name_at names.now) reply.now) }
         ensures err { OnErr result (self.new.output ≡ self.old.output) }
-        ensures fits { length self.old.output + LONGEST_REPLY ≤ self.old.capacity → IsOk result }
+        ensures fits { length self.old.output + reply_most reply.now ≤ self.old.capacity → IsOk result }
         ensures capacity { self.old.capacity ≤ self.new.capacity }
         ensures waiting { self.new.waiting ≡ self.old.waiting }
     {

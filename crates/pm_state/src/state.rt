@@ -10,7 +10,7 @@ ghost use Rattle.pm_laws.specs.Meaning.{AreGivenBy};
 use crate::draft::Draft;
 use crate::graph::Graph;
 use pm_history::{History, HistoryError};
-use pm_model::{Change, ChangeError, Entry, Made, Memory, Refusal, Table};
+use pm_model::{Change, ChangeError, Entry, Grows, Made, Memory, Refusal, Table};
 use std::alloc::Global;
 use std::marker::Model;
 
@@ -34,6 +34,15 @@ impl Model for State {
     ghost view = { machine_of };
 
     ghost invariant = { IsState };
+}
+
+// A version stands for its history.
+impl Grows for State {
+    ghost list = { λ s. s.history };
+
+    fn grown(&self) -> u64 {
+        self.version()
+    }
 }
 
 impl State {

@@ -6,13 +6,10 @@ ghost use Rattle.pm_model.specs.Formed.{IsLive};
 
 use crate::{Graph, State};
 use pm_model::{
-    Bars, Body, Change, ChangeError, ElementId, Entry, Made, Name, NameOf, Reach, Request,
+    Bars, Body, Change, ChangeError, ElementId, Entry, Grows, Made, Name, NameOf, Reach, Request,
 };
 use std::alloc::Global;
 use std::process::Abort;
-use std::test::Fail;
-
-mod obligations;
 
 // The opening has the class `pm` 0, the user attribute `pm_admins` 1, the user `root` 2, its session 0 and
 // its process 0.
@@ -63,15 +60,6 @@ fn opening(rt: &(impl Abort + Alloc<A = Global>)) -> State {
     State::opening(rt.alloc()).expect(rt, "memory")
 }
 
-#[test]
-fn an_accepted_change_is_an_entry(rt: HostRuntime) -> Result<(), Fail> {
-    let mut state = opening(&rt);
-    assert_eq!(rt; start(&mut state, 4), Some(1));
-    assert_eq!(rt; state.version(), 1);
-    assert_eq!(rt; seat_at(&state, 0), Some(4));
-    Ok(())
-}
-
 /// A copy that shares what the state has.
 fn copied(rt: &impl Abort, state: &mut State) -> State {
     state.share().expect(rt, "memory");
@@ -79,12 +67,14 @@ fn copied(rt: &impl Abort, state: &mut State) -> State {
 }
 
 #[test]
-fn a_copy_is_another_state(rt: HostRuntime) -> Result<(), Fail> {
+fn an_accepted_change_is_an_entry(rt: HostRuntime) {
     let mut state = opening(&rt);
     let copy = copied(&rt, &mut state);
     assert_eq!(rt; start(&mut state, 4), Some(1));
+    assert_eq!(rt; state.version(), 1);
+    assert_eq!(rt; state.grown(), 1);
+    assert_eq!(rt; seat_at(&state, 0), Some(4));
     assert_eq!(rt; copy.version(), 0);
-    Ok(())
 }
 
 /// The state once a process is started in a draft.
@@ -95,17 +85,15 @@ fn drafted(rt: &impl Abort, state: &State) -> State {
     let mut draft = state.draft().expect(rt, "memory");
     let change = Change::StartProcess { session: 0 };
     assert!(rt; draft.change(&change).is_ok());
-    assert!(rt; draft.graph().procs().process_live(1));
     draft.finish(start_by(4)).expect(rt, "a state")
 }
 
 #[test]
-fn a_draft_is_finished_as_the_next_state(rt: HostRuntime) -> Result<(), Fail> {
+fn a_draft_is_finished_as_the_next_state(rt: HostRuntime) {
     let state = opening(&rt);
     let next = drafted(&rt, &state);
     assert_eq!(rt; seat_at(&next, 0), Some(4));
     assert_eq!(rt; state.version(), 0);
-    Ok(())
 }
 
 /// There are three elements, one of them a class, no association and no prohibition.
@@ -131,24 +119,19 @@ fn has_names(rt: &impl Abort, graph: &Graph) -> bool {
         && graph.right_name(0) == Some(read)
 }
 
-/// Whether the one is contained in the other, by the rows and by who asks them.
-fn contains(rt: &impl Abort, graph: &Graph, x: ElementId, y: ElementId) -> (bool, bool) {
-    live(rt, graph, x);
-    live(rt, graph, y);
-    let told = graph.rows().contains(x, y);
-    (told, graph.reach().contains(x, y))
-}
-
-fn check_graph(rt: &impl Abort, graph: &Graph) {
-    assert!(rt; has_sizes(graph));
-    assert!(rt; has_names(rt, graph));
-    assert_eq!(rt; contains(rt, graph, ROOT, PM), (true, true));
-    assert_eq!(rt; contains(rt, graph, PM, ROOT), (false, false));
+/// Whether root is contained in `pm`, by the rows and by who asks them.
+fn root_is_in_pm(rt: &impl Abort, graph: &Graph) -> (bool, bool) {
+    live(rt, graph, ROOT);
+    live(rt, graph, PM);
+    let told = graph.rows().contains(ROOT, PM);
+    (told, graph.reach().contains(ROOT, PM))
 }
 
 #[test]
-fn tables_of_the_opening(rt: HostRuntime) -> Result<(), Fail> {
+fn tables_of_the_opening(rt: HostRuntime) {
     let state = opening(&rt);
-    check_graph(&rt, state.graph());
-    Ok(())
+    let graph = state.graph();
+    assert!(rt; has_sizes(graph));
+    assert!(rt; has_names(&rt, graph));
+    assert_eq!(rt; root_is_in_pm(&rt, graph), (true, true));
 }

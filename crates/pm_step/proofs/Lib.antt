@@ -1,4 +1,6 @@
 mod Acting
+mod Glancing
+mod Listing
 mod Placed
 mod Stepping
 mod Telling

@@ -1,15 +1,13 @@
 -- Those that respond, by their places, and what comes of their responses.
-use Rattle.std.proofs.Common.{◌≡◌, ◌<◌, nat_lt, ℕ, true, false, List, [], ◌∷◌, map, length, Option, Some, None, Result, Ok, Err, slice_get, All, Contains, refl, sym, ◌∙◌, subst, arith}
+use Rattle.std.proofs.Common.{◌≡◌, ◌<◌, nat_lt, ℕ, true, false, List, [], ◌∷◌, map, length, Option, Some, None, Result, Ok, Err, slice_get, All, Contains, refl, ◌∙◌, subst, arith}
 use Rattle.std.proofs.lemmas.Bool.{eqb-true, ltb-false}
-use Rattle.std.specs.List.{remove}
 use Rattle.pm_model.specs.State.{State, Graph}
 use Rattle.pm_model.specs.Containment.{contained}
 use Rattle.pm_model.specs.Made.{made_by, shown_of}
 use Rattle.pm_model.specs.Effect.{changed, effect, refusal}
 use Rattle.pm_model.specs.Events.{obliging, responders}
 use Rattle.pm_model.specs.Responses.{Stopped}
-use Rattle.pm_model.specs.Answer.{proposed, entered, granted, granted_with, responded, settled, told}
-use Rattle.pm_model.specs.Formed.{IsUser, IsWellFormed}
+use Rattle.pm_model.specs.Answer.{proposed, entered, granted, granted_with, responded, settled}
 use Rattle.pm_model.specs.declared.events.Event.{Event}
 use Rattle.pm_model.specs.declared.obligations.Obligation.{Obligation}
 use Rattle.pm_model.specs.declared.requests.Request.{Request}
@@ -21,7 +19,7 @@ use Rattle.pm_laws.proofs.Responding.{responder-may, obliging-stands}
 use Rattle.pm_runner.specs.Standing.{StandAt, without}
 use Rattle.pm_runner.proofs.Places.{as_many, none_without}
 use Rattle.pm_step.specs.Asking.{none_responded}
-use Rattle.pm_step.specs.Responders.{before, items_at, AreResponders, withdrawn}
+use Rattle.pm_step.specs.Responders.{items_at, AreResponders, withdrawn}
 
 -- ---- places
 

@@ -2,13 +2,19 @@
 #![tactic(auto)]
 
 mod entries;
+mod glances;
+mod judging;
+mod looking;
 mod proposals;
 mod replies;
 mod responding;
+mod reviewing;
 mod solo;
 mod steps;
 #[cfg(test)]
 mod tests;
 
+pub use glances::Glance;
+pub use looking::glance;
 pub use solo::Solo;
 pub use steps::{Stepped, advance, step};

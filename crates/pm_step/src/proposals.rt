@@ -1,16 +1,18 @@
 //! What the machine makes of a request in a state, before anything is changed.
-ghost use Rattle.std.specs.Prelude.{◌≡◌, Ok, IfOk, Some, None, true};
-ghost use Rattle.pm_model.specs.Answer.{acting, administered, answer_access, entered, is_ahead, or_refused, proposed};
+ghost use Rattle.std.specs.Prelude.{◌≡◌, length, IfOk, IsOk, Some, None, true, false};
+ghost use Rattle.pm_model.specs.Answer.{acting, administered, answer_access, answer_review, entered, is_ahead, or_refused, proposed};
 ghost use Rattle.pm_model.specs.Authority.{ruling};
 ghost use Rattle.pm_model.specs.History.{state_of};
 ghost use Rattle.pm_model.specs.Resolve.{look_up};
-ghost use Rattle.pm_step.specs.Asking.{only_asks, IsTold};
+ghost use Rattle.pm_step.specs.Asking.{asks_freely, only_asks, proposal_of, IsReply, IsTold, IsAskedFor};
+ghost use Rattle.pm_step.specs.Glances.{accessed_event};
 ghost use Rattle.pm_step.specs.Proposed.{answer_by, IsPossible};
 
-use pm_admin::{acting, authorise_access, look_up, permit};
+use crate::reviewing::answer;
+use pm_admin::{acting, authorise_access, authorise_review, look_up, permit};
 use pm_model::{
-    Body, Change, ChangeError, Command, ElementId, Event, Memory, Name, Refusal, Reply, Request,
-    Shown,
+    Body, Change, ChangeError, Command, ElementId, Event, Memory, Name, Question, Refusal, Reply,
+    Request, Shown,
 };
 use pm_state::State;
 
@@ -98,7 +100,8 @@ fn administer(state: &State, process: u32, command: &Command) -> Result<Proposal
 fn access(state: &State, process: u32, right: Name, target: Name) -> Proposal
     ensures answer { answer_by (state_of state.now) result ≡ or_refused (acting state.now.graph process) (λ u. answer_access (state_of state.now) u process right target) }
     ensures possible { IsPossible (state_of state.now) result }
-    ensures told { IsTold (Ok result) }
+    ensures told { IsTold result }
+    ensures value { result ≡ proposal_of (accessed_event state.now.graph process right target) }
 {
     let graph = state.graph();
     let user = match acting(graph, process) {
@@ -116,12 +119,33 @@ fn access(state: &State, process: u32, right: Name, target: Name) -> Proposal
     }
 }
 
-/// What the machine makes of a request. Its only error is want of memory, for the sets of a prohibition or
-/// a response.
+fn review(state: &State, process: u32, question: &Question) -> Result<Proposal, Memory>
+    ensures answer { IfOk result (λ p. answer_by (state_of state.now) p ≡ or_refused (acting state.now.graph process) (λ u. answer_review (state_of state.now) u process question.now)) }
+    ensures possible { IfOk result (IsPossible (state_of state.now)) }
+    ensures told { IfOk result IsTold }
+    ensures reply { IfOk result IsReply }
+{
+    let graph = state.graph();
+    let user = match acting(graph, process) {
+        Ok(user) => user,
+        Err(why) => return Ok(refused(why)),
+    };
+    match authorise_review(graph, user, process, question) {
+        Ok(review) => Ok(Proposal::Told(answer(graph, review)?)),
+        Err(ChangeError::Refused(why)) => Ok(refused(why)),
+        Err(ChangeError::Memory) => Err(Memory),
+    }
+}
+
+/// What the machine makes of a request. Its only error is want of memory: for the sets of a prohibition, a
+/// response, or the lists of a review.
 pub(crate) fn propose(state: &State, request: &Request) -> Result<Proposal, Memory>
     ensures answer { IfOk result (λ p. answer_by (state_of state.now) p ≡ proposed (state_of state.now) request.now) }
     ensures possible { IfOk result (IsPossible (state_of state.now)) }
-    ensures asked { only_asks request.now.body ≡ true → IsTold result }
+    ensures asked { only_asks request.now.body ≡ true → IfOk result IsTold }
+    ensures free { asks_freely request.now.body ≡ true → IsOk result }
+    ensures ahead { is_ahead request.now.after (length state.now.history) ≡ true → IfOk result (λ p. p ≡ Proposal.Told Reply.Ahead) }
+    ensures reached { is_ahead request.now.after (length state.now.history) ≡ false → IfOk result (IsAskedFor state.now.graph request.now.body) }
 {
     if is_ahead(request.after, state.version()) {
         return Ok(Proposal::Told(Reply::Ahead));
@@ -141,5 +165,6 @@ pub(crate) fn propose(state: &State, request: &Request) -> Result<Proposal, Memo
             target,
         } => Ok(access(state, *process, *right, *target)),
         Body::Admin { process, command } => administer(state, *process, command),
+        Body::Review { process, question } => review(state, *process, question),
     }
 }

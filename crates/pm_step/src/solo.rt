@@ -5,7 +5,7 @@ ghost use Rattle.pm_model.specs.State.{element_at};
 ghost use Rattle.pm_model.specs.Nameable.{IsNameable};
 ghost use Rattle.pm_model.specs.History.{opening_machine, state_of};
 ghost use Rattle.pm_step.specs.Answered.{Tells};
-ghost use Rattle.pm_step.specs.Asking.{only_asks, none_responded};
+ghost use Rattle.pm_step.specs.Asking.{asks_freely, none_responded};
 
 use crate::steps::advance;
 use pm_model::{Memory, Reply, Request};
@@ -52,13 +52,13 @@ impl Solo {
     }
 
     /// The machine's answer to a request, as the next entry of seat 0 where it is accepted, and the
-    /// version after it. Each element that the reply names is live. On Memory all is as before; a request
-    /// that only asks never answers it where no obligation responds.
+    /// version after it. Each element that the reply names is live. On Memory all is as before; `version`
+    /// never answers it, nor does an access to which no obligation responds.
     pub fn ask(&mut self, request: &Request) -> Result<(Reply, u64), Memory>
         ensures ok { IfOk result (Tells self.old self.new request.now) }
         ensures named { IfOk result (λ t. IsNameable (λ n. is_some (element_at self.new.graph.elements n)) t.0) }
         ensures err { OnErr result (self.new ≡ self.old) }
-        ensures free { only_asks request.now.body ≡ true → none_responded (proposed (state_of self.old) request.now).reply ≡ true → IsOk result }
+        ensures free { asks_freely request.now.body ≡ true → none_responded (proposed (state_of self.old) request.now).reply ≡ true → IsOk result }
     {
         self.state.graph().formed();
         let nth = self.version() + 1;

@@ -8,7 +8,7 @@ ghost use Rattle.pm_model.specs.declared.requests.Entry.{Entry};
 ghost use Rattle.pm_pattern.specs.Live.{IsEventLive};
 ghost use Rattle.pm_admin.specs.Containing.{relation_in};
 ghost use Rattle.pm_step.specs.Answered.{HasAnswered, IsStep};
-ghost use Rattle.pm_step.specs.Asking.{only_asks, none_responded};
+ghost use Rattle.pm_step.specs.Asking.{asks_freely, none_responded};
 ghost use Rattle.pm_step.specs.Proposed.{event_by, IsActorLive};
 
 use crate::entries::{any_responds, awaited, respond_to_access, respond_to_change};
@@ -129,11 +129,12 @@ fn grant(
 
 /// The machine's answer to a request in this state, which goes on by it. Where the request is accepted, the
 /// state has it as the entry of this seat with this number. Where it isn't, and on Memory, the state is as
-/// before; a request that only asks never answers Memory where no obligation responds to it.
+/// before; `version` never answers Memory, nor does an access to which no obligation responds.
+#[tactic(auto, using(crate::proofs::Glancing::free_asks))]
 pub fn advance(state: &mut State, seat: u32, nth: u64, request: &Request) -> Result<Reply, Memory>
     ensures ok { IfOk result (HasAnswered state.old state.new (record { seat = seat; nth = nth; request = request.now })) }
     ensures err { OnErr result (state.new ≡ state.old) }
-    ensures free { only_asks request.now.body ≡ true → none_responded (proposed (state_of state.old) request.now).reply ≡ true → IsOk result }
+    ensures free { asks_freely request.now.body ≡ true → none_responded (proposed (state_of state.old) request.now).reply ≡ true → IsOk result }
 {
     match propose(state, request) {
         Ok(Proposal::Told(reply)) => Ok(reply),

@@ -1,11 +1,12 @@
 //! Replies, and their lines.
-use crate::{print_bad, print_reply};
-use pm_model::{BadLine, ElementId, Key, Name, NameOf, Reason, Refusal, Reply, Shown, Table};
+use crate::{longest, print_bad, print_reply};
+use pm_model::{
+    BadLine, CountList, ElementId, Key, Name, NameOf, Pair, PairList, Reason, Refusal, Reply,
+    Rights, Shown, Table, UserList,
+};
 use std::alloc::Global;
 use std::process::Abort;
 use std::test::Fail;
-
-const MOST: Option<u64> = Some(18446744073709551615);
 
 // Element 0 has one name, and every other the other.
 #[derive(Drop)]
@@ -30,212 +31,146 @@ impl NameOf for TwoNames {
     }
 }
 
-fn names() -> Result<TwoNames, Fail> {
-    Ok(TwoNames {
+fn prints(
+    rt: &(impl Abort + Alloc<A = Global>),
+    id: Option<u64>,
+    reply: &Reply,
+    line: &str,
+) -> Result<(), Fail> {
+    let names = TwoNames {
         zero: Name::new(b"files").ok_or("a name")?,
         other: Name::new(b"memo").ok_or("a name")?,
-    })
+    };
+    let mut out = Vec::new(rt.alloc());
+    print_reply(id, 17, reply, &names, &mut out)?;
+    let told = format!(in rt.alloc(); "{line}\n")?;
+    assert_eq!(rt; out.as_slice(), told.as_bytes());
+    assert!(rt; out.len() <= longest(reply), "{line}");
+    Ok(())
 }
 
-// The lines of bad forms, at version 6.
-const BAD: [(Option<u64>, BadLine, &str); 5] = [
-    (None, BadLine::TooLong, r#"{"no":"too_long","v":6}"#),
-    (None, BadLine::NotJson, r#"{"no":"not_json","v":6}"#),
+static BAD: &[(BadLine, &str)] = &[
+    (BadLine::TooLong, r#"{"no":"too_long","v":17}"#),
+    (BadLine::NotJson, r#"{"no":"not_json","v":17}"#),
+    (BadLine::NotRequest, r#"{"no":"not_request","v":17}"#),
     (
-        Some(0),
-        BadLine::NotRequest,
-        r#"{"id":0,"no":"not_request","v":6}"#,
-    ),
-    (
-        MOST,
         BadLine::UnknownCommand,
-        r#"{"id":18446744073709551615,"no":"unknown_command","v":6}"#,
+        r#"{"no":"unknown_command","v":17}"#,
     ),
     (
-        None,
-        BadLine::BadField(Key::Id),
-        r#"{"field":"id","no":"bad_field","v":6}"#,
+        BadLine::BadField(Key::Proc),
+        r#"{"field":"proc","no":"bad_field","v":17}"#,
     ),
 ];
 
 #[test]
 fn bad_forms_have_lines(rt: HostRuntime) -> Result<(), Fail> {
-    for (id, bad, line) in &BAD {
+    for (bad, line) in BAD {
+        prints(&rt, None, &Reply::Bad(*bad), line)?;
         let mut out = Vec::new(rt.alloc());
-        print_bad(*id, 6, bad, &mut out)?;
-        print_reply(*id, 6, &Reply::Bad(*bad), &names()?, &mut out)?;
-        let twice = format!(in rt.alloc(); "{line}\n{line}\n")?;
-        assert_eq!(rt; out.as_slice(), twice.as_bytes(), "of {line}");
+        print_bad(None, 17, bad, &mut out)?;
+        let told = format!(in rt.alloc(); "{line}\n")?;
+        assert_eq!(rt; out.as_slice(), told.as_bytes());
     }
     Ok(())
 }
 
-const FIELDS: [(Key, &str); 19] = [
-    (Key::Id, "id"),
-    (Key::After, "after"),
-    (Key::Proc, "proc"),
-    (Key::Process, "process"),
-    (Key::Session, "session"),
-    (Key::Name, "name"),
-    (Key::Into, "into"),
-    (Key::From, "from"),
-    (Key::To, "to"),
-    (Key::Ua, "ua"),
-    (Key::At, "at"),
-    (Key::User, "user"),
-    (Key::Target, "target"),
-    (Key::Right, "right"),
-    (Key::Rights, "rights"),
-    (Key::Inc, "inc"),
-    (Key::Exc, "exc"),
-    (Key::Mode, "mode"),
-    (Key::Subject, "subject"),
+static DONE: &[(u32, Shown, &str)] = &[
+    (0, Shown::Nothing, r#"{"ok":"done","v":17}"#),
+    (0, Shown::Session(1), r#"{"ok":"done","session":1,"v":17}"#),
+    (0, Shown::Process(2), r#"{"ok":"done","process":2,"v":17}"#),
+    (3, Shown::Nothing, r#"{"fired":3,"ok":"done","v":17}"#),
+];
+
+static GRANTED: &[(u32, &str)] = &[
+    (0, r#"{"ok":"granted","v":17}"#),
+    (9, r#"{"fired":9,"ok":"granted","v":17}"#),
 ];
 
 #[test]
-fn bad_fields_have_words(rt: HostRuntime) -> Result<(), Fail> {
-    for (field, word) in &FIELDS {
-        let bad = Reply::Bad(BadLine::BadField(*field));
-        let line = format!(in rt.alloc(); r#"{{"field":"{word}","id":1,"no":"bad_field","v":6}}"#)?;
-        prints(&rt, Some(1), 6, &bad, line.as_str())?;
+fn accepted_requests_have_lines(rt: HostRuntime) -> Result<(), Fail> {
+    for (fired, shown, line) in DONE {
+        let (fired, shown) = (*fired, *shown);
+        prints(&rt, None, &Reply::Done { fired, shown }, line)?;
+    }
+    for (fired, line) in GRANTED {
+        prints(&rt, None, &Reply::Granted { fired: *fired }, line)?;
     }
     Ok(())
 }
 
-fn prints(
+#[test]
+fn words_alone_are_lines(rt: HostRuntime) -> Result<(), Fail> {
+    prints(&rt, None, &Reply::Ahead, r#"{"no":"ahead","v":17}"#)?;
+    let told = r#"{"no":"keep_fault","v":17}"#;
+    prints(&rt, None, &Reply::KeepFault, told)
+}
+
+// The words of refusals, in the order of `refusal`.
+static WORDS: &[&str] = &[
+    "unknown_process",
+    "unknown_session",
+    "bad_kinds",
+    "name_taken",
+    "already",
+    "absent",
+    "cycle",
+    "occupied",
+    "in_use",
+    "last_container",
+    "builtin",
+    "empty_range",
+];
+
+fn refusal(i: usize) -> Refusal {
+    match i {
+        0 => Refusal::UnknownProcess,
+        1 => Refusal::UnknownSession,
+        2 => Refusal::BadKinds,
+        3 => Refusal::NameTaken,
+        4 => Refusal::Already,
+        5 => Refusal::Absent,
+        6 => Refusal::Cycle,
+        7 => Refusal::Occupied,
+        8 => Refusal::InUse,
+        9 => Refusal::LastContainer,
+        10 => Refusal::Builtin,
+        _ => Refusal::EmptyRange,
+    }
+}
+
+// The refusal, of a request and of a response, has the word.
+fn has_word(rt: &(impl Abort + Alloc<A = Global>), i: usize, word: &str) -> Result<(), Fail> {
+    let line = format!(in rt.alloc(); r#"{{"no":"{word}","v":17}}"#)?;
+    prints(rt, None, &Reply::Refused(refusal(i)), line.as_str())?;
+    prints_response(rt, refusal(i), word)
+}
+
+fn prints_response(
     rt: &(impl Abort + Alloc<A = Global>),
-    id: Option<u64>,
-    version: u64,
-    reply: &Reply,
-    line: &str,
+    why: Refusal,
+    word: &str,
 ) -> Result<(), Fail> {
-    let mut out = Vec::new(rt.alloc());
-    print_reply(id, version, reply, &names()?, &mut out)?;
-    let told = format!(in rt.alloc(); "{line}\n")?;
-    assert_eq!(rt; out.as_slice(), told.as_bytes(), "of {line}");
-    Ok(())
-}
-
-const DONE: [(Option<u64>, u64, u32, Shown, &str); 7] = [
-    (
-        Some(1),
-        18446744073709551615,
-        0,
-        Shown::Nothing,
-        r#"{"id":1,"ok":"done","v":18446744073709551615}"#,
-    ),
-    (None, 0, 0, Shown::Nothing, r#"{"ok":"done","v":0}"#),
-    (
-        None,
-        8,
-        0,
-        Shown::Session(1),
-        r#"{"ok":"done","session":1,"v":8}"#,
-    ),
-    (
-        None,
-        9,
-        0,
-        Shown::Process(1),
-        r#"{"ok":"done","process":1,"v":9}"#,
-    ),
-    (
-        Some(7),
-        10,
-        0,
-        Shown::Process(4294967295),
-        r#"{"id":7,"ok":"done","process":4294967295,"v":10}"#,
-    ),
-    (
-        None,
-        14,
-        1,
-        Shown::Session(3),
-        r#"{"fired":1,"ok":"done","session":3,"v":14}"#,
-    ),
-    (
-        Some(4),
-        15,
-        4294967295,
-        Shown::Nothing,
-        r#"{"fired":4294967295,"id":4,"ok":"done","v":15}"#,
-    ),
-];
-
-#[test]
-fn what_is_made_has_lines(rt: HostRuntime) -> Result<(), Fail> {
-    for (id, version, fired, shown, line) in &DONE {
-        let done = Reply::Done {
-            fired: *fired,
-            shown: *shown,
-        };
-        prints(&rt, *id, *version, &done, line)?;
-    }
-    Ok(())
-}
-
-const GRANTED: [(Option<u64>, u32, &str); 3] = [
-    (Some(4), 0, r#"{"id":4,"ok":"granted","v":15}"#),
-    (None, 1, r#"{"fired":1,"ok":"granted","v":15}"#),
-    (
-        Some(0),
-        1024,
-        r#"{"fired":1024,"id":0,"ok":"granted","v":15}"#,
-    ),
-];
-
-#[test]
-fn grants_have_lines(rt: HostRuntime) -> Result<(), Fail> {
-    for (id, fired, line) in &GRANTED {
-        prints(&rt, *id, 15, &Reply::Granted { fired: *fired }, line)?;
-    }
-    Ok(())
-}
-
-#[test]
-fn replies_have_lines(rt: HostRuntime) -> Result<(), Fail> {
-    prints(
-        &rt,
-        Some(2),
-        5,
-        &Reply::Ahead,
-        r#"{"id":2,"no":"ahead","v":5}"#,
+    let refused = Reply::ResponseRefused {
+        obligation: Name::new(b"watch").ok_or("a name")?,
+        action: 2,
+        why,
+    };
+    let line = format!(in rt.alloc();
+        r#"{{"action":2,"id":9,"no":"response_refused","obligation":"watch","v":17,"why":"{word}"}}"#
     )?;
-    let name = Name::new(b"staff").ok_or("a name")?;
-    let unknown = Reply::Refused(Refusal::UnknownName { name });
-    prints(
-        &rt,
-        Some(3),
-        5,
-        &unknown,
-        r#"{"id":3,"name":"staff","no":"unknown_name","v":5}"#,
-    )
+    prints(rt, Some(9), &refused, line.as_str())
 }
 
 #[test]
 fn refusals_have_words(rt: HostRuntime) -> Result<(), Fail> {
-    let refusals = [
-        (Reply::Refused(Refusal::UnknownProcess), "unknown_process"),
-        (Reply::Refused(Refusal::UnknownSession), "unknown_session"),
-        (Reply::Refused(Refusal::BadKinds), "bad_kinds"),
-        (Reply::Refused(Refusal::NameTaken), "name_taken"),
-        (Reply::Refused(Refusal::Already), "already"),
-        (Reply::Refused(Refusal::Absent), "absent"),
-        (Reply::Refused(Refusal::Cycle), "cycle"),
-        (Reply::Refused(Refusal::Occupied), "occupied"),
-        (Reply::Refused(Refusal::InUse), "in_use"),
-        (Reply::Refused(Refusal::LastContainer), "last_container"),
-        (Reply::Refused(Refusal::Builtin), "builtin"),
-        (Reply::Refused(Refusal::EmptyRange), "empty_range"),
-    ];
-    for (reply, word) in &refusals {
-        let line = format!(in rt.alloc(); r#"{{"no":"{word}","v":8}}"#)?;
-        prints(&rt, None, 8, reply, line.as_str())?;
+    for (i, word) in WORDS.iter().enumerate() {
+        has_word(&rt, i, word)?;
     }
     Ok(())
 }
 
-const TABLES: [(Table, &str); 9] = [
+static TABLES: &[(Table, &str)] = &[
     (Table::Elements, "elements"),
     (Table::Assignments, "assignments"),
     (Table::Associations, "associations"),
@@ -249,110 +184,72 @@ const TABLES: [(Table, &str); 9] = [
 
 #[test]
 fn tables_have_words(rt: HostRuntime) -> Result<(), Fail> {
-    for (table, word) in &TABLES {
+    for (table, word) in TABLES {
         let full = Reply::Refused(Refusal::Full(*table));
-        let line = format!(in rt.alloc(); r#"{{"no":"full","table":"{word}","v":8}}"#)?;
-        prints(&rt, None, 8, &full, line.as_str())?;
+        let line = format!(in rt.alloc(); r#"{{"no":"full","table":"{word}","v":17}}"#)?;
+        prints(&rt, None, &full, line.as_str())?;
     }
-    Ok(())
+    prints_response(&rt, Refusal::Full(Table::Rights), "full")
 }
 
-fn denied(right: &[u8], target: u32, reason: Reason) -> Result<Refusal, Fail> {
-    Ok(Refusal::Denied {
-        right: Name::new(right).ok_or("a name")?,
+fn prints_denied(
+    rt: &(impl Abort + Alloc<A = Global>),
+    target: u32,
+    reason: Reason,
+    line: &str,
+) -> Result<(), Fail> {
+    let denied = Reply::Refused(Refusal::Denied {
+        right: Name::new(b"read").ok_or("a name")?,
         target: ElementId(target),
         reason,
-    })
+    });
+    prints(rt, Some(7), &denied, line)
 }
 
 #[test]
-fn denials_have_lines(rt: HostRuntime) -> Result<(), Fail> {
-    let read = denied(b"read", 6, Reason::Class(ElementId(0)))?;
-    prints(
-        &rt,
-        None,
-        5,
-        &Reply::Refused(read),
-        r#"{"class":"files","no":"denied","right":"read","target":"memo","v":5}"#,
-    )?;
-    let write = denied(b"write", 0, Reason::Class(ElementId(3)))?;
-    prints(
-        &rt,
-        Some(7),
-        6,
-        &Reply::Refused(write),
-        r#"{"class":"memo","id":7,"no":"denied","right":"write","target":"files","v":6}"#,
-    )?;
+fn denials_tell_names(rt: HostRuntime) -> Result<(), Fail> {
+    let class = Reason::Class(ElementId(0));
+    let told = r#"{"class":"files","id":7,"no":"denied","right":"read","target":"memo","v":17}"#;
+    prints_denied(&rt, 6, class, told)?;
     let lock = Name::new(b"lock").ok_or("a name")?;
-    let barred = denied(b"read", 6, Reason::Prohibition(lock))?;
-    prints(
-        &rt,
-        Some(8),
-        14,
-        &Reply::Refused(barred),
-        r#"{"id":8,"no":"denied","prohibition":"lock","right":"read","target":"memo","v":14}"#,
-    )
-}
-
-fn response_refused(obligation: Name, why: Refusal) -> Reply {
-    Reply::ResponseRefused {
-        obligation,
-        action: 2,
-        why,
-    }
+    let told =
+        r#"{"id":7,"no":"denied","prohibition":"lock","right":"read","target":"files","v":17}"#;
+    prints_denied(&rt, 0, Reason::Prohibition(lock), told)
 }
 
 #[test]
-fn refused_responses_tell_words(rt: HostRuntime) -> Result<(), Fail> {
-    let name = Name::new(b"watch").ok_or("a name")?;
-    let read = denied(b"read", 6, Reason::Class(ElementId(0)))?;
-    let unknown = Refusal::UnknownName { name };
-    let refusals = [
-        (
-            response_refused(name, Refusal::UnknownProcess),
-            "unknown_process",
-        ),
-        (
-            response_refused(name, Refusal::UnknownSession),
-            "unknown_session",
-        ),
-        (response_refused(name, unknown), "unknown_name"),
-        (response_refused(name, read), "denied"),
-        (response_refused(name, Refusal::BadKinds), "bad_kinds"),
-        (response_refused(name, Refusal::NameTaken), "name_taken"),
-        (response_refused(name, Refusal::Already), "already"),
-        (response_refused(name, Refusal::Absent), "absent"),
-        (response_refused(name, Refusal::Cycle), "cycle"),
-        (response_refused(name, Refusal::Occupied), "occupied"),
-        (response_refused(name, Refusal::InUse), "in_use"),
-        (
-            response_refused(name, Refusal::LastContainer),
-            "last_container",
-        ),
-        (response_refused(name, Refusal::Builtin), "builtin"),
-        (response_refused(name, Refusal::EmptyRange), "empty_range"),
-        (
-            response_refused(name, Refusal::Full(Table::Elements)),
-            "full",
-        ),
-    ];
-    for (reply, word) in &refusals {
-        let line = format!(in rt.alloc();
-            r#"{{"action":2,"no":"response_refused","obligation":"watch","v":17,"why":"{word}"}}"#
-        )?;
-        prints(&rt, None, 17, reply, line.as_str())?;
-    }
-    Ok(())
+fn unknown_names_are_told(rt: HostRuntime) -> Result<(), Fail> {
+    let name = Name::new(b"lock").ok_or("a name")?;
+    let unknown = Reply::Refused(Refusal::UnknownName { name });
+    let told = r#"{"name":"lock","no":"unknown_name","v":17}"#;
+    prints(&rt, None, &unknown, told)?;
+    prints_response(&rt, Refusal::UnknownName { name }, "unknown_name")
 }
 
 #[test]
-fn refused_responses_have_ids(rt: HostRuntime) -> Result<(), Fail> {
-    let name = Name::new(b"watch").ok_or("a name")?;
-    prints(
-        &rt,
-        Some(9),
-        17,
-        &response_refused(name, Refusal::Cycle),
-        r#"{"action":2,"id":9,"no":"response_refused","obligation":"watch","v":17,"why":"cycle"}"#,
-    )
+fn reviews_tell_names(rt: HostRuntime) -> Result<(), Fail> {
+    let mut list = PairList::new(rt.alloc());
+    for (element, rights) in [(0, 1), (7, 18446744073709551615)] {
+        list.push(Pair {
+            element: ElementId(element),
+            rights: Rights(rights),
+        })?;
+    }
+    let told = r#"{"id":3,"list":[["files","1"],["memo","ffffffffffffffff"]],"ok":"caps","v":17}"#;
+    prints(&rt, Some(3), &Reply::Caps { list }, told)?;
+    let list = PairList::new(rt.alloc());
+    let told = r#"{"list":[],"ok":"entries","v":17}"#;
+    prints(&rt, None, &Reply::Entries { list }, told)
+}
+
+#[test]
+fn surveys_tell_names(rt: HostRuntime) -> Result<(), Fail> {
+    let mut users = UserList::new(rt.alloc());
+    let mut counts = CountList::new(rt.alloc());
+    for (user, count) in [(0, 12), (3, 0)] {
+        users.push(ElementId(user))?;
+        counts.push(count)?;
+    }
+    let told = r#"{"counts":[["files",12],["memo",0]],"id":3,"ok":"survey","v":17}"#;
+    prints(&rt, Some(3), &Reply::Survey { users, counts }, told)
 }

@@ -1,4 +1,3 @@
-use Rattle.std.proofs.Common.{sym}
 use Rattle.pm_admin.proofs.Watched.{pattern-live}
 use Rattle.pm_admin.proofs.obliging.denied_withdraw.Goals as goal
 
