@@ -12,7 +12,7 @@ use Rattle.pm_session.specs.Taken.{rest_of}
 use Rattle.ngac.specs.Coming.{coming, ahead, state_past}
 use Rattle.ngac.specs.Parts.{next_asked}
 use Rattle.ngac.specs.Wrote.{WrotePart, Moved, Answered, AnsweredWhole}
-use Rattle.ngac.proofs.Known.{Appends-nil, Appends-append}
+use Rattle.pm_io.proofs.Known.{Appends-nil, Appends-append}
 use Rattle.ngac.proofs.Writing.{replies-append, state_past-append, IsProperFront-behind, IsProperFront-before}
 
 -- what is asked, by how the bytes are cut

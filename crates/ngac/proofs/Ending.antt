@@ -13,7 +13,7 @@ use Rattle.ngac.specs.Fronts.{IsProperFront}
 use Rattle.ngac.specs.Ran.{Ran, AreWholeReplies, IsComplete}
 use Rattle.ngac.specs.Wrote.{Wrote, WroteWhole, WrotePart}
 use Rattle.ngac.specs.declared.statuses.Status.TheVariants.{Done, Usage, ReadFault, WriteFault, Memory, TooMuch}
-use Rattle.ngac.proofs.Known.{Appends-nil, Consumes-nil, Consumes-append, Consumes-kept}
+use Rattle.pm_io.proofs.Known.{Appends-nil, Consumes-nil, Consumes-append, Consumes-kept}
 use Rattle.ngac.proofs.Running.{Running, Reading, reading-whole, reading-part}
 
 -- ---- what was written

@@ -7,7 +7,7 @@ use Rattle.pm_model.specs.Solo.{replies}
 use Rattle.pm_session.proofs.LineLaws.{events-shape-append}
 use Rattle.ngac.specs.Coming.{coming, coming_past, ahead}
 use Rattle.ngac.specs.Wrote.{Wrote, WroteWhole, WrotePart}
-use Rattle.ngac.proofs.Known.{Appends-nil, Consumes-nil, Consumes-append}
+use Rattle.pm_io.proofs.Known.{Appends-nil, Consumes-nil, Consumes-append}
 use Rattle.ngac.proofs.Writing.{Wrote-then, Wrote-then_part}
 
 -- what was pushed comes before what is behind it

@@ -58,6 +58,19 @@ pub record FailingKeeper : Type 0 where
   pub failures : Failures
   pub faults : ℕ
 
+-- a link in memory: the most bytes that its next reads give, the numbers of the calls that can do nothing, and how often
+-- it failed and a read and a write could do nothing
+pub record FailingLink : Type 0 where
+  pub left : List ℕ
+  pub pieces : List ℕ
+  pub room : ℕ
+  pub taken : List ℕ
+  pub agains : List ℕ
+  pub failures : Failures
+  pub faults : ℕ
+  pub read_agains : ℕ
+  pub write_agains : ℕ
+
 -- of a keeper that tells no entries
 abbrev pub untold : Option (List Entry)
 untold = None

@@ -41,4 +41,11 @@ impl Schedule {
         raise(&mut self.calls);
         self.failing.contains(&self.calls)
     }
+
+    // How many calls there were.
+    pub(crate) fn calls(&self) -> u64
+        ensures { result ≡ self.now.calls }
+    {
+        self.calls
+    }
 }

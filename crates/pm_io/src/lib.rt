@@ -1,17 +1,21 @@
-//! Sources, sinks and keepers: in memory, with calls that are to fail or with none; sources and sinks over std's readers and
-//! writers too.
+//! Sources, sinks, keepers and links: in memory, with calls that are to fail or with none; sources and sinks over std's readers
+//! and writers too.
 #![tactic(auto)]
 
 mod calm;
 mod counting;
 mod failing;
 mod keepers;
+mod links;
+mod mem_link;
 mod memory;
 mod moving;
 mod streams;
 
 pub use calm::{CalmSink, CalmSource};
 pub use keepers::{MemKeep, NoKeep};
+pub use links::{Link, LinkRead, LinkWrite};
+pub use mem_link::MemLink;
 pub use memory::{MemSink, MemSource};
 pub use streams::{StdSink, StdSource};
 

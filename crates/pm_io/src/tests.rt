@@ -1,6 +1,9 @@
 //! What reads and writes answer, one after another, with chosen calls failing.
 
-use crate::{CalmSink, CalmSource, MemKeep, MemSink, MemSource, NoKeep, StdSink, StdSource};
+use crate::{
+    CalmSink, CalmSource, Link, LinkRead, LinkWrite, MemKeep, MemLink, MemSink, MemSource, NoKeep,
+    StdSink, StdSource,
+};
 use pm_model::{Body, Entry, Failed, Keep, KeepError, Request, Sink, Source};
 use std::io;
 use std::io::{Cursor, Error, ErrorKind, Read, Write};
@@ -169,5 +172,45 @@ fn a_keeper_fails_where_it_is_told_to(rt: HostRuntime) -> Result<(), Fail> {
         assert_eq!(rt; (kept.seat, kept.nth), (7, nth));
     }
     assert_eq!(rt; NoKeep.keep(5, &entry(9)), Ok(()));
+    Ok(())
+}
+
+// What reads of at most four bytes answer, one after another.
+fn links_read(rt: &impl Abort, link: &mut MemLink, expected: &[LinkRead]) {
+    let mut piece = [0u8; 4];
+    for answer in expected {
+        assert_eq!(rt; link.read(&mut piece), *answer);
+    }
+}
+
+// What writes of `abc` answer, one after another.
+fn links_write(rt: &impl Abort, link: &mut MemLink, expected: &[LinkWrite]) {
+    for answer in expected {
+        assert_eq!(rt; link.write(b"abc"), *answer);
+    }
+}
+
+#[test]
+fn a_link_does_what_it_is_told(rt: HostRuntime) -> Result<(), Fail> {
+    let mut link = MemLink::new(rt.alloc(), b"abcdef", 4, &[1, 0, 3], &[2, 5, 10], &[3, 5])?;
+    let reads = [
+        LinkRead::Got(1),
+        LinkRead::Again,
+        LinkRead::Failed,
+        LinkRead::Got(1),
+        LinkRead::Failed,
+        LinkRead::Got(3),
+        LinkRead::Got(1),
+        LinkRead::End,
+    ];
+    links_read(&rt, &mut link, &reads);
+    let writes = [
+        LinkWrite::Took(3),
+        LinkWrite::Again,
+        LinkWrite::Took(1),
+        LinkWrite::Failed,
+    ];
+    links_write(&rt, &mut link, &writes);
+    assert_eq!(rt; link.taken(), b"abca".as_slice());
     Ok(())
 }

@@ -4,6 +4,7 @@ pub mod Fitting
 pub mod InPieces
 pub mod Kept
 pub mod LineLaws
+pub mod Listed
 pub mod OpenLine
 pub mod Pushing
 pub mod Taking

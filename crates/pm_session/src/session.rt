@@ -134,6 +134,13 @@ impl Session {
         print_bad(id, version, bad, &mut self.output)
     }
 
+    /// What each session keeps: the bytes that wait are kept as lines are.
+    pub fn shaped(&self)
+        ensures { shape self.now.waiting ≡ self.now.waiting }
+    {
+        let _start = self.start;
+    }
+
     /// The bytes that are to be sent.
     pub fn out(&self) -> &[u8]
         ensures { result.now ≡ self.now.output }
