@@ -1,0 +1,5 @@
+pub mod Counting
+pub mod Kept
+pub mod Own
+pub mod Seating
+pub mod Sitting

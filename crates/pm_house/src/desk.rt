@@ -1,0 +1,298 @@
+//! The desk.
+
+ghost use Rattle.std.specs.Prelude.{◌≡◌, ◌≢◌, ◌<◌, ◌≤◌, ◌+◌, [], ℕ, length, take, slice_index, replicate, OnOk, OnErr, IfOk, IfSome, MatchBool};
+ghost use mathlib.Core.List.{IsPrefix};
+ghost use Rattle.pm_model.specs.Answer.{longest_history};
+ghost use Rattle.pm_model.specs.Causes.{HasKeepCause};
+ghost use Rattle.pm_model.specs.History.{opening_machine};
+ghost use Rattle.pm_step.specs.Answered.{IsStep};
+ghost use Rattle.pm_world.specs.Seats.{count_by_seat};
+ghost use Rattle.pm_house.specs.Lanes.{entry_by};
+ghost use Rattle.pm_house.specs.Desks.{Comes, HasFaultCause, reply_told};
+
+use crate::home::Home;
+use crate::lane::Lane;
+use crossbeam_utils::rule::Protocol;
+use left_right::Absorb;
+use pm_model::{Keep, KeepError, Memory, Reply, Request};
+use pm_publish::{Copies, Glimpse, NeverBack, Publisher, Sealed, Viewer};
+use pm_state::State;
+use pm_step::{Stepped, step};
+use std::alloc::Global;
+use std::marker::Model;
+use std::sync::Wait;
+use std::sync::ledger::Book;
+
+/// What the desk makes of a request.
+#[derive(Drop)]
+pub enum Outcome {
+    /// It is an entry, with the machine's reply.
+    Entered(Reply),
+    /// The machine doesn't accept it, and replies so.
+    Answered(Reply),
+    /// The machine accepts it, and the keeper has failed: it is no entry.
+    Fault,
+}
+
+impl Outcome {
+    /// The reply that tells it.
+    pub fn into_reply(self) -> Reply
+        ensures { result ≡ reply_told self }
+    {
+        match self {
+            Outcome::Entered(reply) | Outcome::Answered(reply) => reply,
+            Outcome::Fault => Reply::KeepFault,
+        }
+    }
+}
+
+/// What the desk answers, with the version that its reply was made from or made.
+#[derive(Drop)]
+pub struct Submitted {
+    pub outcome: Outcome,
+    pub version: u64,
+}
+
+/// Who alone accepts requests: it publishes the machine's versions, gives the entries to a keeper, holds the book of
+/// all seats' shares, and counts the entries of each seat. Contracts see the version that is published and the keeper.
+#[derive(Drop)]
+pub struct Desk<K: Keep + Drop, H: Home>
+where
+    NeverBack: Protocol<Sealed<State, H>, Glimpse>,
+    Sealed<State, H>: Absorb<Sealed<State, H>, State = State>,
+{
+    publisher: Publisher<State, H>,
+    latest: Option<Sealed<State, H>>,
+    keeper: K,
+    book: Book<H>,
+    counts: Vec<u64>,
+}
+
+impl<K: Keep + Drop, H: Home> Model for Desk<K, H>
+where
+    NeverBack: Protocol<Sealed<State, H>, Glimpse>,
+    Sealed<State, H>: Absorb<Sealed<State, H>, State = State>,
+{
+    ghost use Rattle.pm_model.specs.History.{Machine};
+    ghost use Rattle.pm_house.specs.Desks.{IsDesk};
+
+    ghost Value = { Machine × K };
+
+    ghost view = { λ d. (d.publisher, d.keeper) };
+
+    ghost invariant = { λ d. IsDesk d.publisher d.latest (K.kept d.keeper) d.book.total d.counts.items H.all };
+}
+
+// The next version, with all pointers that its publication takes. The version after it can share what it has.
+fn ready(alloc: Global, next: State) -> Result<Copies<State>, Memory>
+    ensures { IfOk result (λ c. c ≡ next) }
+{
+    let mut next = next;
+    next.share()?;
+    Copies::new(alloc, next)
+}
+
+// Gives the last entry of this version to the keeper.
+fn keep_last<K: Keep>(keeper: &mut K, at: u64, next: &State) -> Result<(), KeepError>
+    requires room { at < longest_history }
+    requires last { length next.now.history ≡ at + 1 }
+    requires kept { IfSome (K.kept keeper.old) (λ es. es ≡ take at next.now.history) }
+    ensures ok { OnOk result (IfSome (K.kept keeper.new) (λ es. es ≡ next.now.history)) }
+    ensures err { OnErr result (K.kept keeper.new ≡ K.kept keeper.old) }
+    ensures cause { HasKeepCause (K.faults keeper.old) (K.faults keeper.new) result }
+{
+    let Some(entry) = next.entry(at) else {
+        unreachable!()
+    };
+    keeper.keep(at, entry)
+}
+
+// One more for a seat.
+fn count(counts: &mut Vec<u64>, seat: u32)
+    requires within { seat < length counts.old.items }
+    requires room { slice_index counts.old.items seat ≤ longest_history }
+    ensures size { length counts.new.items ≡ length counts.old.items }
+    ensures seat { slice_index counts.new.items seat ≡ slice_index counts.old.items seat + 1 }
+    ensures others { (s : ℕ) → s ≢ seat → slice_index counts.new.items s ≡ slice_index counts.old.items s }
+{
+    counts[seat as usize] += 1;
+}
+
+// So many zeros.
+fn zeros(alloc: Global, count: u32) -> Result<Vec<u64>, Memory>
+    ensures { IfOk result (λ r. r.items ≡ replicate count 0) }
+{
+    let mut zeros = Vec::with_capacity(alloc, count as usize)?;
+    zeros.resize(count as usize, 0)?;
+    Ok(zeros)
+}
+
+// Before any entry there is one version, and whoever holds a version of no entry holds it.
+#[tactic(auto, using(crate::proofs::Counting::empty_is_opening))]
+fn shows_opening<H: Home>(viewer: &Viewer<State, H>) -> bool
+    ensures { MatchBool result (viewer.now.shown ≡ opening_machine) (Unit {0}) }
+{
+    viewer.shown().replayed();
+    viewer.shown().version() == 0
+}
+
+impl<K: Keep + Drop, H: Home> Desk<K, H> {
+    pub(crate) fn new(
+        alloc: Global,
+        publisher: Publisher<State, H>,
+        book: Book<H>,
+        keeper: K,
+        seats: u32,
+    ) -> Result<Desk<K, H>, Memory>
+        requires published { publisher ≡ opening_machine }
+        requires book { book.total ≡ 0 }
+        requires seats { H.all ≡ seats }
+        requires keeper { IfSome (K.kept keeper) (λ es. es ≡ []) }
+        ensures { IfOk result (λ d. (d.0 ≡ opening_machine) × (d.1 ≡ keeper)) }
+    {
+        let counts = zeros(alloc, seats)?;
+        Ok(Desk {
+            publisher,
+            latest: None,
+            keeper,
+            book,
+            counts,
+        })
+    }
+
+    /// The version that is published.
+    pub fn shown(&self) -> &State
+        ensures { result.now ≡ self.now.0 }
+    {
+        self.publisher.shown()
+    }
+
+    /// How many entries of the history are of this seat. It takes no memory.
+    #[tactic(auto, using(crate::proofs::Counting::counts_fit))]
+    pub fn number_of(&self, seat: u32) -> u64
+        requires { seat < H.all }
+        ensures number { result ≡ count_by_seat seat self.now.0.history }
+        ensures most { result ≤ longest_history }
+    {
+        let _most = self.shown().version();
+        self.counts[seat as usize]
+    }
+
+    /// Where the keeper tells its entries, they are the history.
+    pub fn kept(&self)
+        ensures { IfSome (K.kept self.now.1) (λ es. es ≡ self.now.0.history) }
+    {
+        let _keeper = &self.keeper;
+    }
+
+    // Tells a viewer the version that is published. False where what it holds is longer, or there are as many pointers
+    // to the version as can be counted: then it is as before.
+    pub(crate) fn tell(&self, viewer: &mut Viewer<State, H>) -> bool
+        ensures { MatchBool result ((viewer.new.shown ≡ self.now.0) × IsPrefix viewer.old.shown.history viewer.new.shown.history) (viewer.new ≡ viewer.old) }
+    {
+        match &self.latest {
+            None => shows_opening(viewer),
+            Some(latest) => match latest.another() {
+                Ok(version) => viewer.told(version),
+                Err(Memory) => false,
+            },
+        }
+    }
+
+    // Tells a viewer the version that is published, as soon as that can be.
+    pub(crate) fn show<R: Wait>(&self, rt: &R, viewer: &mut Viewer<State, H>)
+        ensures { viewer.new.shown ≡ self.now.0 }
+    {
+        for _ in rt.forever() {
+            if self.tell(viewer) {
+                return;
+            }
+        }
+        unreachable!()
+    }
+
+    // What the machine makes of the request, as the next entry of the lane.
+    fn stepped(&self, lane: &Lane<H>, request: &Request) -> Result<Stepped, Memory>
+        requires { lane.now.share ≡ count_by_seat lane.now.seat self.now.0.history }
+        ensures { IfOk result (IsStep self.now.0 (entry_by lane.now request.now)) }
+    {
+        let nth = self.number_of(lane.seat()) + 1;
+        step(self.shown(), lane.seat(), nth, request)
+    }
+
+    // Publishes the next state, once its last entry is kept. All memory is taken before the keeper is asked.
+    fn enter<R: Wait>(
+        &mut self,
+        rt: &R,
+        alloc: Global,
+        lane: &mut Lane<H>,
+        request: &Request,
+        next: State,
+        reply: Reply,
+    ) -> Result<Outcome, Memory>
+        requires share { lane.old.share ≡ count_by_seat lane.old.seat self.old.0.history }
+        requires step { IsStep self.old.0 (entry_by lane.old request.now) (Stepped.Accepted next reply) }
+        ensures outcome { IfOk result (Comes self.old.0 self.new.0 lane.old lane.new request.now) }
+        ensures cause { IfOk result (HasFaultCause (K.faults self.old.1) (K.faults self.new.1)) }
+        ensures err { OnErr result ((self.new.0 ≡ self.old.0) × (lane.new ≡ lane.old)) }
+        ensures calm { OnErr result (K.faults self.new.1 ≡ K.faults self.old.1) }
+    {
+        let _made = self.number_of(lane.seat());
+        let at = self.shown().version();
+        let next = ready(alloc, next)?;
+        let _next = next.version().version();
+        match keep_last(&mut self.keeper, at, next.version()) {
+            Ok(()) => {}
+            Err(KeepError::Failed) => return Ok(Outcome::Fault),
+            Err(KeepError::Memory) => return Err(Memory),
+        }
+        self.latest = Some(self.publisher.publish(rt, next));
+        lane.enter(&mut self.book);
+        count(&mut self.counts, lane.seat());
+        Ok(Outcome::Entered(reply))
+    }
+
+    // What comes of the request.
+    fn taken<R: Wait>(
+        &mut self,
+        rt: &R,
+        alloc: Global,
+        lane: &mut Lane<H>,
+        request: &Request,
+    ) -> Result<Outcome, Memory>
+        requires { lane.old.share ≡ count_by_seat lane.old.seat self.old.0.history }
+        ensures outcome { IfOk result (Comes self.old.0 self.new.0 lane.old lane.new request.now) }
+        ensures cause { IfOk result (HasFaultCause (K.faults self.old.1) (K.faults self.new.1)) }
+        ensures err { OnErr result ((self.new.0 ≡ self.old.0) × (lane.new ≡ lane.old)) }
+        ensures calm { OnErr result (K.faults self.new.1 ≡ K.faults self.old.1) }
+    {
+        match self.stepped(lane, request) {
+            Ok(Stepped::Answered(reply)) => Ok(Outcome::Answered(reply)),
+            Ok(Stepped::Accepted(next, reply)) => self.enter(rt, alloc, lane, request, next, reply),
+            Err(Memory) => Err(Memory),
+        }
+    }
+
+    /// The machine's answer to a request of a lane, whose share is how many entries of its seat the history has. Where
+    /// the machine accepts it, the history gets it as the lane's next entry, unless the keeper fails in this call. Then,
+    /// and where the machine doesn't accept it, all is as before, and so it is on Memory, which comes before the keeper
+    /// has kept the entry or not at all.
+    pub fn accept<R: Wait>(
+        &mut self,
+        rt: &R,
+        alloc: Global,
+        lane: &mut Lane<H>,
+        request: &Request,
+    ) -> Result<Submitted, Memory>
+        requires { lane.old.share ≡ count_by_seat lane.old.seat self.old.0.history }
+        ensures outcome { IfOk result (λ s. Comes self.old.0 self.new.0 lane.old lane.new request.now s.outcome) }
+        ensures cause { IfOk result (λ s. HasFaultCause (K.faults self.old.1) (K.faults self.new.1) s.outcome) }
+        ensures version { IfOk result (λ s. s.version ≡ length self.new.0.history) }
+        ensures err { OnErr result ((self.new.0 ≡ self.old.0) × (lane.new ≡ lane.old)) }
+        ensures calm { OnErr result (K.faults self.new.1 ≡ K.faults self.old.1) }
+    {
+        let outcome = self.taken(rt, alloc, lane, request)?;
+        let version = self.shown().version();
+        Ok(Submitted { outcome, version })
+    }
+}

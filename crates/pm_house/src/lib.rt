@@ -1,0 +1,21 @@
+//! Many callers of one machine: a desk behind a lock, which alone accepts requests, and seats that look without it.
+#![tactic(auto)]
+
+mod desk;
+mod home;
+mod house;
+mod lane;
+mod opening;
+mod seat;
+mod seats;
+
+pub use desk::{Desk, Outcome, Submitted};
+pub use home::Home;
+pub use house::House;
+pub use lane::Lane;
+pub use opening::{house_room, opening_room};
+pub use seat::{Looked, Replied, Seat};
+pub use seats::Seats;
+
+#[cfg(test)]
+mod tests;

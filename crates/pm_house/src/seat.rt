@@ -1,0 +1,241 @@
+//! A seat.
+
+ghost use Rattle.std.specs.Prelude.{◌≡◌, ◌≢◌, length, true, IsOk, IfNone, IfSome, OnErr, IfOk, MatchBool};
+ghost use Rattle.pm_model.specs.History.{opening_machine};
+ghost use Rattle.pm_step.specs.Asking.{asks_freely};
+ghost use Rattle.pm_house.specs.Desks.{NeverFails};
+ghost use Rattle.pm_house.specs.Seated.{seated, IsSeat, Looks, Rests, Submits};
+
+use crate::desk::{Desk, Submitted};
+use crate::home::Home;
+use crate::house::House;
+use crate::lane::Lane;
+use crossbeam_utils::rule::Protocol;
+use pm_model::{Keep, Memory, Reply, Request};
+use pm_publish::{Glimpse, NeverBack, Sealed, Viewer};
+use pm_state::State;
+use pm_step::{Glance, glance};
+use std::alloc::Global;
+use std::marker::Model;
+use std::sync::Wait;
+
+/// What a seat was told by the desk: a reply, and the version that it was made from or made.
+#[derive(Drop)]
+pub struct Replied {
+    pub reply: Reply,
+    pub version: u64,
+}
+
+/// What a seat saw by itself.
+#[derive(Drop)]
+pub enum Looked {
+    /// The machine's reply at this version, which the seat then shows.
+    Answer { reply: Reply, version: u64 },
+    /// The request is for the desk.
+    GoDesk,
+}
+
+/// A caller of a house: a lane, and a viewer that holds a version, whose history is the seat's front. Up to its mark,
+/// which a look leaves, the seat knows all its entries: its share counts them. Of what the front holds past the mark, it
+/// was told nothing. Contracts see lane, mark and version.
+#[derive(Drop)]
+pub struct Seat<H: Home>
+where
+    NeverBack: Protocol<Sealed<State, H>, Glimpse>,
+{
+    viewer: Viewer<State, H>,
+    lane: Lane<H>,
+    mark: u64,
+}
+
+impl<H: Home> Model for Seat<H>
+where
+    NeverBack: Protocol<Sealed<State, H>, Glimpse>,
+{
+    ghost use Rattle.pm_house.specs.Seated.{Seated, seated, IsSeat};
+
+    ghost Value = { Seated };
+
+    ghost view = { λ s. seated s.lane s.mark s.viewer.shown };
+
+    ghost invariant = { λ s. IsSeat (seated s.lane s.mark s.viewer.shown) };
+}
+
+impl<H: Home> Seat<H> {
+    pub(crate) fn new(lane: Lane<H>, viewer: Viewer<State, H>) -> Seat<H>
+        requires lane { lane.share ≡ 0 }
+        requires viewer { viewer.shown ≡ opening_machine }
+        ensures { result ≡ seated lane 0 viewer.shown }
+    {
+        Seat {
+            viewer,
+            lane,
+            mark: 0,
+        }
+    }
+
+    /// The seat's number.
+    pub fn number(&self) -> u32
+        ensures { result ≡ self.now.lane.seat }
+    {
+        self.lane.seat()
+    }
+
+    /// How many entries it has made.
+    pub fn made(&self) -> u64
+        ensures { result ≡ self.now.lane.share }
+    {
+        self.lane.made()
+    }
+
+    /// The version that it holds, until it looks again or asks the desk.
+    pub fn shown(&self) -> &State
+        ensures { result.now ≡ self.now.machine }
+    {
+        self.viewer.shown()
+    }
+
+    /// What each seat keeps: where it does nothing it is told nothing, and its share is how many of its entries the front
+    /// has up to the mark.
+    pub fn still(&self)
+        ensures rests { Rests self.now self.now }
+        ensures kept { IsSeat self.now }
+    {
+        self.viewer.shown().replayed();
+    }
+
+    // Enters what is published.
+    fn enter(&mut self)
+        ensures rests { Rests self.old self.new }
+        ensures mark { self.new.mark ≡ self.old.mark }
+    {
+        self.viewer.look();
+        self.viewer.shown().replayed();
+    }
+
+    /// A look at what is published, and the machine's answer to the request at the version that the seat then shows, or
+    /// that the desk is needed, as `glance` says. An access and a question for the version take no memory; on Memory the
+    /// seat has looked. Where the version that is published can't be entered, the seat goes on with the one that it
+    /// holds.
+    pub fn look(&mut self, request: &Request) -> Result<Looked, Memory>
+        ensures ok { IfOk result (Looks self.old self.new request.now) }
+        ensures err { OnErr result (Rests self.old self.new) }
+        ensures mark { self.new.mark ≡ self.old.mark }
+        ensures free { asks_freely request.now.body ≡ true → IsOk result }
+    {
+        self.enter();
+        self.shown().replayed();
+        let version = self.shown().version();
+        match glance(self.shown(), request) {
+            Ok(Glance::Answer(reply)) => Ok(Looked::Answer { reply, version }),
+            Ok(Glance::NeedsDesk) => Ok(Looked::GoDesk),
+            Err(Memory) => Err(Memory),
+        }
+    }
+
+    /// A look at what is published, and the version that the seat then shows.
+    pub fn version(&mut self) -> u64
+        ensures rests { Rests self.old self.new }
+        ensures mark { self.new.mark ≡ self.old.mark }
+        ensures version { result ≡ length self.new.machine.history }
+    {
+        self.enter();
+        self.shown().version()
+    }
+
+    // The desk tells the seat its version, whose history is then its front, up to the mark. False where the seat has made
+    // entries of which the desk doesn't know, or can't be told now: then it is as before.
+    pub(crate) fn catch_up<K: Keep + Drop>(&mut self, desk: &Desk<K, H>) -> bool
+        ensures rests { Rests self.old self.new }
+        ensures there { MatchBool result (self.new ≡ seated self.old.lane (length desk.now.0.history) desk.now.0) (self.new ≡ self.old) }
+    {
+        self.viewer.shown().replayed();
+        desk.shown().replayed();
+        if desk.number_of(self.lane.seat()) != self.lane.made() {
+            return false;
+        }
+        if !desk.tell(&mut self.viewer) {
+            return false;
+        }
+        self.mark = desk.shown().version();
+        true
+    }
+
+    // Asks the desk, whose version the seat shows up to the mark.
+    fn ask<K: Keep + Drop, R: Wait>(
+        &mut self,
+        rt: &R,
+        alloc: Global,
+        desk: &mut Desk<K, H>,
+        request: &Request,
+    ) -> Result<Replied, Memory>
+        requires shown { self.old.machine ≡ desk.old.0 }
+        requires mark { self.old.mark ≡ length self.old.machine.history }
+        ensures ok { IfOk result (λ r. Submits self.old self.new request.now r.reply r.version) }
+        ensures calm { IfOk result (λ r. NeverFails K.faults → r.reply ≢ Reply.KeepFault) }
+        ensures err { OnErr result (self.new ≡ self.old) }
+    {
+        self.viewer.shown().replayed();
+        let submitted = desk.accept(rt, alloc, &mut self.lane, request)?;
+        desk.show(rt, &mut self.viewer);
+        self.viewer.shown().replayed();
+        let Submitted { outcome, version } = submitted;
+        self.mark = version;
+        Ok(Replied {
+            reply: outcome.into_reply(),
+            version,
+        })
+    }
+
+    // One try. None where the desk can't tell the seat its version now.
+    #[tactic(auto, using(crate::proofs::Sitting::rests_then, crate::proofs::Sitting::rests_submits))]
+    fn attempt<K: Keep + Drop, R: Wait>(
+        &mut self,
+        rt: &R,
+        alloc: Global,
+        house: &House<K, H>,
+        request: &Request,
+    ) -> Result<Option<Replied>, Memory>
+        ensures some { IfOk result (λ o. IfSome o (λ r. Submits self.old self.new request.now r.reply r.version)) }
+        ensures none { IfOk result (λ o. IfNone o (Rests self.old self.new)) }
+        ensures calm { IfOk result (λ o. IfSome o (λ r. NeverFails K.faults → r.reply ≢ Reply.KeepFault)) }
+        ensures err { OnErr result (Rests self.old self.new) }
+    {
+        let mut desk = house.desk.lock(rt);
+        if !self.catch_up(&desk) {
+            return Ok(None);
+        }
+        let replied = self.ask(rt, alloc, &mut desk, request)?;
+        Ok(Some(replied))
+    }
+
+    /// Asks the desk, and is told the version that the reply was made from or made: the seat then shows it. What the
+    /// machine accepts is this seat's next entry, once and for all. `KeepFault` comes only where the keeper failed; the
+    /// same request may then be submitted again. On Memory the request is no entry.
+    #[tactic(auto, using(crate::proofs::Sitting::rests_then, crate::proofs::Sitting::rests_submits))]
+    pub fn submit<K: Keep + Drop, R: Wait>(
+        &mut self,
+        rt: &R,
+        alloc: Global,
+        house: &House<K, H>,
+        request: &Request,
+    ) -> Result<Replied, Memory>
+        ensures ok { IfOk result (λ r. Submits self.old self.new request.now r.reply r.version) }
+        ensures calm { IfOk result (λ r. NeverFails K.faults → r.reply ≢ Reply.KeepFault) }
+        ensures err { OnErr result (Rests self.old self.new) }
+    {
+        self.still();
+        for _ in rt.forever() {
+            if let Some(replied) = self.attempt(rt, alloc, house, request)? {
+                return Ok(replied);
+            }
+        }
+        unreachable!()
+    }
+}
+
+fn sent<T: Send + Drop>(_value: T) {}
+
+fn seat_is_sent<H: Home + Send + Sync>(seat: Seat<H>) {
+    sent(seat)
+}
