@@ -1,0 +1,4 @@
+pub mod Speaking
+pub mod Wiring
+pub mod Turning
+pub mod Talking

@@ -1,0 +1,6 @@
+use Rattle.std.proofs.Common.{◌≡◌, None}
+use Rattle.pm_worker.specs.Feeding.{Works}
+use Rattle.pm_worker.proofs.feeds.work.Given as goal
+
+abbrev pub invariant-loop : goal.invariant-loop
+invariant-loop g l = record { out : g.F.Feed.out l.feed ≡ None; works : Works l.fn.seat l.seat }

@@ -1,0 +1,6 @@
+pub mod Told
+pub mod Connected
+pub mod Answering
+pub mod Turns
+pub mod Talks
+pub mod Feeding

@@ -1,0 +1,67 @@
+//! Workers in threads of their own.
+
+ghost use Rattle.std.specs.Prelude.{◌≡◌, ◌<◌, ℕ, None, true, All, length, slice_index_or};
+ghost use Rattle.pm_worker.specs.Feeding.{Works};
+
+use crate::feeds::{Feed, work};
+use crate::gates::Gate;
+use crossbeam_utils::rule::Protocol;
+use pm_house::{Home, House, Seat};
+use pm_io::Link;
+use pm_model::Keep;
+use pm_publish::{Glimpse, NeverBack, Sealed};
+use pm_state::State;
+use std::alloc::Global;
+use std::sync::Wait;
+use std::thread;
+use std::thread::Threads;
+
+/// A worker: a seat, and what feeds it.
+#[derive(Drop)]
+pub struct Crew<F, H: Home>
+where
+    NeverBack: Protocol<Sealed<State, H>, Glimpse>,
+{
+    pub seat: Seat<H>,
+    pub feed: F,
+}
+
+fn work_one<L: Link + Drop, K: Keep + Drop, H: Home, G: Gate, F: Feed<L>, R: Wait>(
+    rt: &R,
+    alloc: Global,
+    house: &House<K, H>,
+    gate: &G,
+    member: &mut Crew<F, H>,
+)
+    requires { F.out member.old.feed ≡ None }
+    ensures stopped { F.stopped member.new.feed ≡ true }
+    ensures works { Works member.old.seat member.new.seat }
+{
+    work(rt, alloc, house, &mut member.seat, &mut member.feed, gate)
+}
+
+/// Each member works in a thread of its own, until its feed has stopped; where no thread can be made, members work one
+/// after another.
+pub fn run_workers<
+    L: Link + Drop + Send,
+    K: Keep + Drop + Send,
+    H: Home + Send + Sync,
+    G: Gate + Send + Sync,
+    F: Feed<L> + Send + Drop,
+    R: Threads + Wait + Sync,
+>(rt: &R, alloc: Global, house: &House<K, H>, crew: &mut [Crew<F, H>], gate: &G)
+    requires { All (λ m. F.out m.feed ≡ None) crew.old }
+    ensures stopped { (i : ℕ) (d : _) → i < length crew.old → F.stopped (slice_index_or crew.new i d).feed ≡ true }
+    ensures works { (i : ℕ) (d : _) → i < length crew.old → Works (slice_index_or crew.old i d).seat (slice_index_or crew.new i d).seat }
+{
+    thread::for_each_mut(
+        rt,
+        crew,
+        32,
+        &|_, member: &mut Crew<F, H>|
+            requires { F.out member.old.feed ≡ None }
+            ensures stopped { F.stopped member.new.feed ≡ true }
+            ensures works { Works member.old.seat member.new.seat }
+        { work_one(rt, alloc, house, gate, member) },
+    );
+}

@@ -1,0 +1,74 @@
+//! Where a worker's connections come from, as a trait, and the worker's loop.
+
+ghost use Rattle.std.specs.Prelude.{◌≡◌, ◌<◌, ℕ, Bool, true, Option, Some, None, []};
+ghost use Rattle.std.specs.Io.KnownBytes.{IsAtEnd};
+ghost use Rattle.pm_model.specs.Lines.{cut};
+ghost use Rattle.pm_worker.specs.declared.turns.Turn.TheVariants as turned;
+ghost use Rattle.pm_worker.specs.Feeding.{number_out, Works};
+
+use crate::conn::Conn;
+use crate::gates::Gate;
+use crate::serving::serve_turn;
+use crate::turns::Turn;
+use pm_house::{Home, House, Seat};
+use pm_io::Link;
+use pm_model::Keep;
+use std::alloc::Global;
+use std::sync::Wait;
+
+/// What a feed gives.
+pub enum Next<L> {
+    /// A connection that is to have a turn.
+    Turn(Conn<L>),
+    /// There are no more.
+    Stop,
+}
+
+/// Where connections come from.
+pub trait Feed<L: Link> {
+    /// The number of the connection that it gave and that hasn't come back.
+    ghost out: { Self → Option ℕ };
+
+    /// Whether it has said that there are no more.
+    ghost stopped: { Self → Bool };
+
+    /// The next connection, once the one before has come back.
+    fn next(&mut self) -> Next<L>
+        requires { out self.old ≡ None }
+        ensures { (out self.new ≡ number_out result) × (out self.new ≡ None → stopped self.new ≡ true) };
+
+    /// The connection that it gave comes back, after a turn that ended so. One that has ended has no input, no whole line
+    /// and no output; the link of a LinkFault has failed.
+    fn back(&mut self, conn: Conn<L>, turn: Turn)
+        requires number { out self.old ≡ Some conn.number }
+        requires ended { turn ≡ turned.Ended → IsAtEnd (L.wire conn.link).left × (cut conn.session.waiting ≡ None) × (conn.session.output ≡ []) }
+        requires fault { turn ≡ turned.LinkFault → 0 < (L.wire conn.link).faults }
+        ensures { out self.new ≡ None };
+}
+
+/// Serves what a feed gives, until it stops.
+pub fn work<L: Link + Drop, K: Keep + Drop, H: Home, G: Gate, F: Feed<L>, R: Wait>(
+    rt: &R,
+    alloc: Global,
+    house: &House<K, H>,
+    seat: &mut Seat<H>,
+    feed: &mut F,
+    gate: &G,
+)
+    requires { F.out feed.old ≡ None }
+    ensures stopped { F.stopped feed.new ≡ true }
+    ensures out { F.out feed.new ≡ None }
+    ensures works { Works seat.old seat.new }
+{
+    for _ in rt.forever() {
+        match feed.next() {
+            Next::Turn(conn) => {
+                let mut conn = conn;
+                let turn = serve_turn(rt, alloc, house, seat, &mut conn, gate);
+                feed.back(conn, turn);
+            }
+            Next::Stop => return,
+        }
+    }
+    unreachable!()
+}

@@ -1,0 +1,92 @@
+//! A turn.
+
+ghost use Rattle.std.specs.Prelude.{◌≡◌, ◌≤◌};
+ghost use Rattle.pm_house.specs.Desks.{NeverFails};
+ghost use Rattle.pm_worker.specs.Turns.{Serves};
+
+use crate::answering::answer_line;
+use crate::conn::Conn;
+use crate::gates::Gate;
+use crate::sending::{close, feed, make_room, send};
+use crate::turns::Turn;
+use pm_house::{Home, House, Seat};
+use pm_io::{Link, LinkRead};
+use pm_json::LONGEST_REPLY;
+use pm_model::{Keep, Memory};
+use pm_session::Session;
+use std::alloc::Global;
+use std::sync::Wait;
+
+// A turn over a link and a session.
+fn serve<L: Link, K: Keep + Drop, H: Home, G: Gate, R: Wait>(
+    rt: &R,
+    alloc: Global,
+    house: &House<K, H>,
+    seat: &mut Seat<H>,
+    link: &mut L,
+    session: &mut Session,
+    gate: &G,
+) -> Turn
+    requires room { LONGEST_REPLY ≤ session.old.capacity }
+    ensures serves { Serves (NeverFails K.faults) seat.old seat.new session.old session.new (L.wire link.old) (L.wire link.new) result }
+    ensures capacity { LONGEST_REPLY ≤ session.new.capacity }
+{
+    seat.still();
+    session.shaped();
+    if let Some(turn) = send(link, session) {
+        return turn;
+    }
+    let mut lines = 0u32;
+    let mut total = 0usize;
+    loop {
+        if lines == 64 || total >= 65536 {
+            return close(link, session);
+        }
+        if let Some(turn) = make_room(link, session) {
+            return turn;
+        }
+        match answer_line(rt, alloc, house, seat, session, gate) {
+            Ok(true) => {
+                lines += 1;
+                continue;
+            }
+            Ok(false) => {}
+            Err(Memory) => {
+                let _sent = send(link, session);
+                return Turn::Memory;
+            }
+        }
+        if let Some(turn) = send(link, session) {
+            return turn;
+        }
+        match feed(link, session) {
+            LinkRead::Got(count) => total += count,
+            LinkRead::End => return Turn::Ended,
+            LinkRead::Again => return Turn::Idle,
+            LinkRead::Failed => return Turn::LinkFault,
+        }
+    }
+}
+
+/// One turn of a connection.
+pub fn serve_turn<L: Link, K: Keep + Drop, H: Home, G: Gate, R: Wait>(
+    rt: &R,
+    alloc: Global,
+    house: &House<K, H>,
+    seat: &mut Seat<H>,
+    conn: &mut Conn<L>,
+    gate: &G,
+) -> Turn
+    ensures serves { Serves (NeverFails K.faults) seat.old seat.new conn.old.session conn.new.session (L.wire conn.old.link) (L.wire conn.new.link) result }
+    ensures number { conn.new.number ≡ conn.old.number }
+{
+    serve(
+        rt,
+        alloc,
+        house,
+        seat,
+        &mut conn.link,
+        &mut conn.session,
+        gate,
+    )
+}
