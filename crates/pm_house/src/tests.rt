@@ -170,20 +170,17 @@ fn beside_one_another<H: Home + Send + Sync, R: Threads + Wait + Abort + Alloc<A
     both_start(rt, &house, one, two);
 }
 
-// Both ask the desk at a time, and then meet.
-fn both_start<H: Home + Send + Sync, R: Threads + Wait + Abort + Alloc<A = Global> + Sync>(
+// Both ask the desk in turn, and then meet.
+fn both_start<H: Home, R: Wait + Abort + Alloc<A = Global>>(
     rt: &R,
     house: &House<NoKeep, H>,
     one: Seat<H>,
     two: Seat<H>,
 ) {
-    let (one, two) = thread::join(
-        rt,
-        || start_processes(rt, house, one, 10),
-        || start_processes(rt, house, two, 10),
-    );
-    assert!(rt; one.1 && two.1);
-    meet_at_last(rt, house, one.0, two.0);
+    let (one, first) = start_processes(rt, house, one, 10);
+    let (two, second) = start_processes(rt, house, two, 10);
+    assert!(rt; first && second);
+    meet_at_last(rt, house, one, two);
 }
 
 fn meet_at_last<H: Home, R: Wait + Abort>(
