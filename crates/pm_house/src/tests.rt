@@ -8,9 +8,11 @@ use crate::{Home, House, Seat, Seats, house_room, opening_room};
 use asking::{
     Ask, Told, fault_at, letter, look, never_falls, policy, request, start_processes, submit,
 };
+use crossbeam_utils::rule::Protocol;
 use pm_io::{MemKeep, NoKeep};
 use pm_model::{Keep, Kind};
-use pm_publish::Opened;
+use pm_publish::{Glimpse, NeverBack, Opened, Sealed};
+use pm_state::State;
 use std::alloc::Global;
 use std::marker::Brand;
 use std::process::Abort;
@@ -148,39 +150,68 @@ fn what_cannot_be_kept_is_no_entry(rt: HostRuntime) {
     }
 }
 
-fn beside_one_another<H: Home + Send + Sync, R: Threads + Wait + Abort + Alloc<A = Global> + Sync>(
-    rt: &R,
-    opened: Opened,
-    blank: Blank,
-)
-    requires room { opened ≡ H.book }
-    requires ledger { (blank.name ≡ H.name) × (blank.parts ≡ H.parts) }
-    requires seats { (H.all ≡ 2) × (H.parts ≡ 2) }
+// A caller in a thread of its own: how often it starts a process, and how often it looks.
+#[derive(Drop)]
+struct Caller<H: Home>
+where
+    NeverBack: Protocol<Sealed<State, H>, Glimpse>,
 {
-    let (house, mut seats) = house_of::<NoKeep, H, R>(rt, opened, blank, NoKeep, 2);
-    let one = seats.seat(0).expect(rt, "seat 0");
-    let two = seats.seat(1).expect(rt, "seat 1");
-    let ((one, started), (mut two, stayed)) = thread::join(
-        rt,
-        || start_processes(rt, &house, one, 30),
-        move || never_falls(two, 200),
-    );
-    assert!(rt; started && stayed);
-    assert_eq!(rt; two.version(), 30);
-    both_start(rt, &house, one, two);
+    seat: Seat<H>,
+    starts: u64,
+    looks: u64,
+    fine: bool,
 }
 
-// Both ask the desk in turn, and then meet.
-fn both_start<H: Home, R: Wait + Abort + Alloc<A = Global>>(
+fn act<H: Home, R: Wait + Abort + Alloc<A = Global>>(
+    rt: &R,
+    house: &House<NoKeep, H>,
+    caller: &mut Caller<H>,
+) {
+    let started = start_processes(rt, house, &mut caller.seat, caller.starts);
+    let stayed = never_falls(&mut caller.seat, caller.looks);
+    caller.fine = started && stayed;
+}
+
+// Each acts in a thread of its own.
+fn all_act<H: Home + Send + Sync, R: Threads + Wait + Abort + Alloc<A = Global> + Sync>(
+    rt: &R,
+    house: &House<NoKeep, H>,
+    callers: &mut [Caller<H>],
+) {
+    thread::for_each_mut(
+        rt,
+        callers,
+        4,
+        &|_, caller: &mut Caller<H>| { act(rt, house, caller) },
+    );
+}
+
+fn calling<H: Home>(seat: Seat<H>, starts: u64, looks: u64) -> Caller<H> {
+    Caller {
+        seat,
+        starts,
+        looks,
+        fine: false,
+    }
+}
+
+// One asks the desk while the other looks; then both ask, and meet.
+fn beside_one_another<H: Home + Send + Sync, R: Threads + Wait + Abort + Alloc<A = Global> + Sync>(
     rt: &R,
     house: &House<NoKeep, H>,
     one: Seat<H>,
     two: Seat<H>,
 ) {
-    let (one, first) = start_processes(rt, house, one, 10);
-    let (two, second) = start_processes(rt, house, two, 10);
-    assert!(rt; first && second);
-    meet_at_last(rt, house, one, two);
+    let mut callers = [calling(one, 30, 0), calling(two, 0, 200)];
+    all_act(rt, house, &mut callers);
+    let [one, mut two] = callers;
+    assert!(rt; one.fine && two.fine);
+    assert_eq!(rt; two.seat.version(), 30);
+    let mut callers = [calling(one.seat, 10, 0), calling(two.seat, 10, 10)];
+    all_act(rt, house, &mut callers);
+    let [one, two] = callers;
+    assert!(rt; one.fine && two.fine);
+    meet_at_last(rt, house, one.seat, two.seat);
 }
 
 fn meet_at_last<H: Home, R: Wait + Abort>(
@@ -194,8 +225,23 @@ fn meet_at_last<H: Home, R: Wait + Abort>(
     assert_eq!(rt; (one.made(), two.made()), (40, 10));
 }
 
+fn two_callers<H: Home + Send + Sync, R: Threads + Wait + Abort + Alloc<A = Global> + Sync>(
+    rt: &R,
+    opened: Opened,
+    blank: Blank,
+)
+    requires room { opened ≡ H.book }
+    requires ledger { (blank.name ≡ H.name) × (blank.parts ≡ H.parts) }
+    requires seats { (H.all ≡ 2) × (H.parts ≡ 2) }
+{
+    let (house, mut seats) = house_of::<NoKeep, H, R>(rt, opened, blank, NoKeep, 2);
+    let one = seats.seat(0).expect(rt, "seat 0");
+    let two = seats.seat(1).expect(rt, "seat 1");
+    beside_one_another(rt, &house, one, two);
+}
+
 #[test]
 fn threads_share_one_history(rt: HostRuntime) {
     let (opened, blank) = house_room(2);
-    beside_one_another::<Brand, _>(&rt, opened, blank)
+    two_callers::<Brand, _>(&rt, opened, blank)
 }

@@ -168,28 +168,28 @@ pub(crate) fn fault_at<K: Keep + Drop, H: Home, R: Wait + Abort + Alloc<A = Glob
 }
 
 /// Looks so many times, and says whether no version was below the one before.
-pub(crate) fn never_falls<H: Home>(mut seat: Seat<H>, turns: u64) -> (Seat<H>, bool) {
+pub(crate) fn never_falls<H: Home>(seat: &mut Seat<H>, turns: u64) -> bool {
     for _ in 0..turns {
         let before = seat.shown().version();
         if seat.version() < before {
-            return (seat, false);
+            return false;
         }
     }
-    (seat, true)
+    true
 }
 
 /// Starts so many processes, and says whether each was started.
 pub(crate) fn start_processes<K: Keep + Drop, H: Home, R: Wait + Abort + Alloc<A = Global>>(
     rt: &R,
     house: &House<K, H>,
-    mut seat: Seat<H>,
+    seat: &mut Seat<H>,
     count: u64,
-) -> (Seat<H>, bool) {
+) -> bool {
     for _ in 0..count {
-        let (told, _) = submit(rt, house, &mut seat, &request(rt, Ask::Start(0)));
+        let (told, _) = submit(rt, house, seat, &request(rt, Ask::Start(0)));
         if told != Told::Done {
-            return (seat, false);
+            return false;
         }
     }
-    (seat, true)
+    true
 }
