@@ -1,0 +1,97 @@
+//! Many callers of one house, in threads. For measurement: the arguments are how many seats look, how often each, and how
+//! many requests one more seat submits: at most so many while others look, and all of them where nobody does. The input is
+//! lines in three parts, with an empty line behind each but the last: those that make the policy, those that are looked
+//! for, and those that are submitted, each part again and again from its first line on.
+#![tactic(auto)]
+
+mod input;
+mod work;
+
+ghost use Rattle.std.specs.Prelude.{◌≡◌, ◌<◌, ◌≤◌};
+
+use input::{Input, read};
+use pm_house::{Home, House, Seats, house_room, opening_room};
+use pm_io::NoKeep;
+use pm_model::Memory;
+use pm_publish::Opened;
+use std::alloc::Global;
+use std::env;
+use std::env::Args;
+use std::marker::Brand;
+use std::process::ExitCode;
+use std::sync::Wait;
+use std::sync::ledger::Blank;
+use std::thread::Threads;
+use work::{Counts, callers_of, make, total, work};
+
+/// The next word as a number, or 0.
+fn number(args: &mut Args) -> u64 {
+    match args.next() {
+        Some(word) => word.parse::<u64>().unwrap_or(0),
+        None => 0,
+    }
+}
+
+/// How much is asked: how often each looks, and how many requests are submitted.
+#[derive(Clone, Copy)]
+struct Amounts {
+    looks: u64,
+    submits: u64,
+}
+
+fn house_of<H: Home>(
+    alloc: Global,
+    opened: Opened,
+    blank: Blank,
+    seats: u32,
+) -> Result<(House<NoKeep, H>, Seats<H>), Memory>
+    requires room { opened ≡ H.book }
+    requires ledger { (blank.name ≡ H.name) × (blank.parts ≡ H.parts) }
+    requires seats { (0 < seats) × (seats ≤ 32) × (H.all ≡ seats) × (H.parts ≡ seats) }
+{
+    let room = opening_room::<H>(alloc, opened, seats)?;
+    House::new(alloc, room, blank, NoKeep, seats)
+}
+
+/// What all callers come to.
+fn run<H: Home + Send + Sync, R: Threads + Wait + AllocGlobal + Sync>(
+    rt: &R,
+    opened: Opened,
+    blank: Blank,
+    seats: u32,
+    input: &Input,
+    amounts: Amounts,
+) -> Result<Counts, Memory>
+    requires room { opened ≡ H.book }
+    requires ledger { (blank.name ≡ H.name) × (blank.parts ≡ H.parts) }
+    requires seats { (0 < seats) × (seats ≤ 32) × (H.all ≡ seats) × (H.parts ≡ seats) }
+{
+    let (house, mut left) = house_of::<H>(rt.alloc(), opened, blank, seats)?;
+    let mut callers = callers_of(rt.alloc(), &mut left, amounts.looks, amounts.submits)?;
+    make(rt, &house, &mut callers, input)?;
+    work(rt, &house, &mut callers, input);
+    Ok(total(&callers))
+}
+
+fn main(rt: HostRuntime) -> ExitCode {
+    let Ok(mut args) = env::args(&rt) else {
+        return ExitCode::FAILURE;
+    };
+    let _name = args.next();
+    let seats = number(&mut args).min(31) as u32 + 1;
+    let amounts = Amounts {
+        looks: number(&mut args),
+        submits: number(&mut args),
+    };
+    let Some(input) = read(&rt) else {
+        return ExitCode::FAILURE;
+    };
+    let (opened, blank) = house_room(seats);
+    match run::<Brand, _>(&rt, opened, blank, seats, &input, amounts) {
+        Ok(counts) => {
+            let _ = println!(rt; "{} looks, {} of them answered, {} requests, {} of them accepted", counts.looks, counts.answered, counts.submits, counts.accepted);
+            ExitCode::SUCCESS
+        }
+        Err(Memory) => ExitCode::FAILURE,
+    }
+}
