@@ -89,7 +89,10 @@ fn main(rt: HostRuntime) -> ExitCode {
     let (opened, blank) = house_room(seats);
     match run::<Brand, _>(&rt, opened, blank, seats, &input, amounts) {
         Ok(counts) => {
-            let _ = println!(rt; "{} looks, {} of them answered, {} requests, {} of them accepted", counts.looks, counts.answered, counts.submits, counts.accepted);
+            let _ = println!(rt;
+                "{} looks, {} of them answered, {} requests, {} of them accepted",
+                counts.looks, counts.answered, counts.submits, counts.accepted
+            );
             ExitCode::SUCCESS
         }
         Err(Memory) => ExitCode::FAILURE,
