@@ -1,6 +1,6 @@
-//! Many callers of one house, in threads. For measurement: the arguments are how many seats look, how often each, and how
-//! many requests one more seat submits: at most so many while others look, and all of them where nobody does. The input is
-//! lines in three parts, with an empty line behind each but the last: those that make the policy, those that are looked
+//! Many callers of one house, in threads. For measurement: the arguments are how many seats look, how often each, how many
+//! requests one more seat submits (at most so many while others look, and all of them where nobody does), and how many
+//! milliseconds it rests after each, none where that isn't said. The input is lines in three parts, with an empty line behind each but the last: those that make the policy, those that are looked
 //! for, and those that are submitted, each part again and again from its first line on.
 #![tactic(auto)]
 
@@ -10,11 +10,10 @@ mod work;
 ghost use Rattle.std.specs.Prelude.{◌≡◌, ◌<◌, ◌≤◌};
 
 use input::{Input, read};
-use pm_house::{Home, House, Seats, house_room, opening_room};
+use pm_house::{Home, House, house_room};
 use pm_io::NoKeep;
 use pm_model::Memory;
 use pm_publish::Opened;
-use std::alloc::Global;
 use std::env;
 use std::env::Args;
 use std::marker::Brand;
@@ -22,6 +21,7 @@ use std::process::ExitCode;
 use std::sync::Wait;
 use std::sync::ledger::Blank;
 use std::thread::Threads;
+use std::time::Clock;
 use work::{Counts, callers_of, make, total, work};
 
 /// The next word as a number, or 0.
@@ -32,29 +32,17 @@ fn number(args: &mut Args) -> u64 {
     }
 }
 
-/// How much is asked: how often each looks, and how many requests are submitted.
+/// How much is asked: how often each looks, how many requests are submitted, and the rest after each of these in
+/// milliseconds.
 #[derive(Clone, Copy)]
 struct Amounts {
     looks: u64,
     submits: u64,
-}
-
-fn house_of<H: Home>(
-    alloc: Global,
-    opened: Opened,
-    blank: Blank,
-    seats: u32,
-) -> Result<(House<NoKeep, H>, Seats<H>), Memory>
-    requires room { opened ≡ H.book }
-    requires ledger { (blank.name ≡ H.name) × (blank.parts ≡ H.parts) }
-    requires seats { (0 < seats) × (seats ≤ 32) × (H.all ≡ seats) × (H.parts ≡ seats) }
-{
-    let room = opening_room::<H>(alloc, opened, seats)?;
-    House::new(alloc, room, blank, NoKeep, seats)
+    rest: u64,
 }
 
 /// What all callers come to.
-fn run<H: Home + Send + Sync, R: Threads + Wait + AllocGlobal + Sync>(
+fn run<H: Home + Send + Sync, R: Threads + Wait + Clock + AllocGlobal + Sync>(
     rt: &R,
     opened: Opened,
     blank: Blank,
@@ -66,10 +54,10 @@ fn run<H: Home + Send + Sync, R: Threads + Wait + AllocGlobal + Sync>(
     requires ledger { (blank.name ≡ H.name) × (blank.parts ≡ H.parts) }
     requires seats { (0 < seats) × (seats ≤ 32) × (H.all ≡ seats) × (H.parts ≡ seats) }
 {
-    let (house, mut left) = house_of::<H>(rt.alloc(), opened, blank, seats)?;
+    let (house, mut left) = House::<NoKeep, H>::open(rt.alloc(), opened, blank, NoKeep, seats)?;
     let mut callers = callers_of(rt.alloc(), &mut left, amounts.looks, amounts.submits)?;
     make(rt, &house, &mut callers, input)?;
-    work(rt, &house, &mut callers, input);
+    work(rt, &house, &mut callers, input, amounts.rest);
     Ok(total(&callers))
 }
 
@@ -82,6 +70,7 @@ fn main(rt: HostRuntime) -> ExitCode {
     let amounts = Amounts {
         looks: number(&mut args),
         submits: number(&mut args),
+        rest: number(&mut args),
     };
     let Some(input) = read(&rt) else {
         return ExitCode::FAILURE;

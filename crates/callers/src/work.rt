@@ -12,6 +12,7 @@ use std::sync::Wait;
 use std::sync::atomic::{AtomicU64, Ordering};
 use std::thread;
 use std::thread::Threads;
+use std::time::{Clock, Duration};
 
 /// How many looks and requests there were, how many of the looks were answered without the desk, and how many of the
 /// requests the machine accepted.
@@ -76,14 +77,14 @@ fn in_turn(requests: &[Request], n: u64) -> Option<&Request> {
     requests.get(place as usize)
 }
 
-fn look<H: Home>(caller: &mut Caller<H>, request: &Request) {
+fn look<H: Home, R: Threads + Sync>(rt: &R, caller: &mut Caller<H>, request: &Request) {
     caller.done.looks = caller.done.looks.saturating_add(1);
-    if let Ok(Looked::Answer { .. }) = caller.seat.look(request) {
+    if let Ok(Looked::Answer { .. }) = caller.seat.look(rt, request) {
         caller.done.answered = caller.done.answered.saturating_add(1);
     }
 }
 
-fn submit<H: Home, R: Wait + AllocGlobal>(
+fn submit<H: Home, R: Threads + Wait + AllocGlobal + Sync>(
     rt: &R,
     house: &House<NoKeep, H>,
     caller: &mut Caller<H>,
@@ -98,7 +99,7 @@ fn submit<H: Home, R: Wait + AllocGlobal>(
 }
 
 /// The first caller makes the policy.
-pub(crate) fn make<H: Home, R: Wait + AllocGlobal>(
+pub(crate) fn make<H: Home, R: Threads + Wait + AllocGlobal + Sync>(
     rt: &R,
     house: &House<NoKeep, H>,
     callers: &mut Vec<Caller<H>>,
@@ -113,21 +114,33 @@ pub(crate) fn make<H: Home, R: Wait + AllocGlobal>(
     Ok(())
 }
 
-fn look_on<H: Home>(caller: &mut Caller<H>, input: &Input, looking: &AtomicU64) {
+fn look_on<H: Home, R: Threads + Sync>(
+    rt: &R,
+    caller: &mut Caller<H>,
+    input: &Input,
+    looking: &AtomicU64,
+) {
     for n in 0..caller.looks {
         if let Some(request) = in_turn(input.looked.as_slice(), n) {
-            look(caller, request);
+            look(rt, caller, request);
         }
     }
     looking.fetch_sub(1, Ordering::SeqCst);
 }
 
-// Stops once nobody looks any more, where somebody did.
-fn submit_on<H: Home, R: Wait + AllocGlobal>(
+fn pause<R: Clock>(rt: &R, rest: u64) {
+    if rest > 0 {
+        thread::sleep(rt, Duration::from_millis(rest));
+    }
+}
+
+// Rests so many milliseconds after each request. Stops once nobody looks any more, where somebody did.
+fn submit_on<H: Home, R: Threads + Wait + Clock + AllocGlobal + Sync>(
     rt: &R,
     house: &House<NoKeep, H>,
     caller: &mut Caller<H>,
     input: &Input,
+    rest: u64,
     looking: &AtomicU64,
 ) {
     let alone = looking.load(Ordering::SeqCst) == 0;
@@ -141,15 +154,17 @@ fn submit_on<H: Home, R: Wait + AllocGlobal>(
         if submit(rt, house, caller, request).is_err() {
             return;
         }
+        pause(rt, rest);
     }
 }
 
 /// Each caller in a thread of its own.
-pub(crate) fn work<H: Home + Send + Sync, R: Threads + Wait + AllocGlobal + Sync>(
+pub(crate) fn work<H: Home + Send + Sync, R: Threads + Wait + Clock + AllocGlobal + Sync>(
     rt: &R,
     house: &House<NoKeep, H>,
     callers: &mut Vec<Caller<H>>,
     input: &Input,
+    rest: u64,
 ) {
     let looking = AtomicU64::new((callers.len() as u64).saturating_sub(1));
     thread::for_each_mut(
@@ -158,9 +173,9 @@ pub(crate) fn work<H: Home + Send + Sync, R: Threads + Wait + AllocGlobal + Sync
         32,
         &|place, caller: &mut Caller<H>| {
             if place == 0 {
-                submit_on(rt, house, caller, input, &looking);
+                submit_on(rt, house, caller, input, rest, &looking);
             } else {
-                look_on(caller, input, &looking);
+                look_on(rt, caller, input, &looking);
             }
         },
     );

@@ -12,7 +12,7 @@ use Rattle.ngac.specs.Coming.{coming, ahead, coming_past}
 use Rattle.ngac.specs.Fronts.{IsProperFront}
 use Rattle.ngac.specs.Ran.{Ran, AreWholeReplies, IsComplete}
 use Rattle.ngac.specs.Wrote.{Wrote, WroteWhole, WrotePart}
-use Rattle.ngac.specs.declared.statuses.Status.TheVariants.{Done, Usage, ReadFault, WriteFault, Memory, TooMuch}
+use Rattle.ngac.specs.declared.statuses.Status.TheVariants.{Done, Usage, ReadFault, WriteFault, Memory, TooMuch, Serve}
 use Rattle.pm_io.proofs.Known.{Appends-nil, Consumes-nil, Consumes-append, Consumes-kept}
 use Rattle.ngac.proofs.Running.{Running, Reading, reading-whole, reading-part}
 
@@ -169,6 +169,19 @@ ran-memory limit left rest taken grown now S T w piece h whole =
 -- nothing to be done
 pub ran-usage : (limit : ℕ) (left taken : Option (List ℕ)) → 0 < limit → Ran limit left left taken taken Usage
 ran-usage limit left taken some = record {
+  bytes = [];
+  written = [];
+  consumed = Consumes-nil left;
+  appended = Appends-nil taken;
+  due = (refl, refl);
+  at_end = λ e. cc;
+  within = omega arith;
+  at_limit = λ _. (λ e. cc, λ p. let l = p.0 in let none : ⊥ = omega arith in absurd none);
+}
+
+-- nor where a server is asked for
+pub ran-serve : (limit port workers : ℕ) (left taken : Option (List ℕ)) → 0 < limit → Ran limit left left taken taken (Serve port workers)
+ran-serve limit port workers left taken some = record {
   bytes = [];
   written = [];
   consumed = Consumes-nil left;

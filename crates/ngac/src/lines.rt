@@ -17,6 +17,7 @@ use pm_model::{Asked, BadLine, Failed, LineEvent, Memory, Sink, What};
 use pm_session::Session;
 use pm_step::Solo;
 use std::alloc::Global;
+use std::thread::Threads;
 
 /// Why answering stopped.
 #[derive(Clone, Copy, Debug, PartialEq, Eq)]
@@ -111,7 +112,12 @@ fn next_asked(alloc: Global, session: &mut Session) -> Result<Option<Asked>, Mem
 
 // With room for the reply there is no want of memory once the request was asked, but for a review's list, which leaves
 // the state.
-fn answer(session: &mut Session, solo: &mut Solo, asked: Asked) -> Result<(), Memory>
+fn answer<R: Threads + Sync>(
+    rt: &R,
+    session: &mut Session,
+    solo: &mut Solo,
+    asked: Asked,
+) -> Result<(), Memory>
     requires { length session.old.output + LONGEST_REPLY ≤ session.old.capacity }
     ensures output { OnOk result (session.new.output ≡ session.old.output ++ line_told asked.id (state_of solo.old) (answer_what (state_of solo.old) asked.what)) }
     ensures state { OnOk result (state_of solo.new ≡ after (state_of solo.old) (answer_what (state_of solo.old) asked.what)) }
@@ -123,7 +129,7 @@ fn answer(session: &mut Session, solo: &mut Solo, asked: Asked) -> Result<(), Me
     match &asked.what {
         What::Bad(bad) => session.bad(asked.id, solo.version(), bad),
         What::Request(request) => {
-            let (reply, version) = match solo.ask(request) {
+            let (reply, version) = match solo.ask(rt, request) {
                 Ok(told) => told,
                 Err(Memory) => return Err(Memory),
             };
@@ -164,7 +170,8 @@ fn make_room<O: Sink>(session: &mut Session, out: &mut O) -> Result<(), Failed>
 
 // Answers each whole line that waits. Replies are written only to make room for others, so the last
 // of them stand in the output, want of memory or not.
-fn answer_waiting<O: Sink>(
+fn answer_waiting<O: Sink, R: Threads + Sync>(
+    rt: &R,
     alloc: Global,
     session: &mut Session,
     solo: &mut Solo,
@@ -184,13 +191,14 @@ fn answer_waiting<O: Sink>(
 {
     while let Some(asked) = next_asked(alloc, session)? {
         make_room(session, out)?;
-        answer(session, solo, asked)?;
+        answer(rt, session, solo, asked)?;
     }
     Ok(())
 }
 
 /// Answers each whole line that waits. No reply is left unwritten but after a write fault.
-pub(crate) fn answer_lines<O: Sink>(
+pub(crate) fn answer_lines<O: Sink, R: Threads + Sync>(
+    rt: &R,
     alloc: Global,
     session: &mut Session,
     solo: &mut Solo,
@@ -209,7 +217,7 @@ pub(crate) fn answer_lines<O: Sink>(
         → WroteWhole (O.taken out.old) (O.taken out.new) (state_of solo.old) (state_of solo.new) (coming session.old.waiting) }
     ensures cause { HasStopCause (O.faults out.old) (O.faults out.new) result }
 {
-    match answer_waiting(alloc, session, solo, out) {
+    match answer_waiting(rt, alloc, session, solo, out) {
         Err(Stop::WriteFault) => Err(Stop::WriteFault),
         Err(Stop::Memory) => {
             send(session, out)?;

@@ -10,6 +10,7 @@ use std::env::Args;
 use std::io::{Error, ErrorKind};
 use std::process::Abort;
 use std::test::Fail;
+use std::thread::Threads;
 
 const LIMIT: u64 = 1 << 40;
 
@@ -50,7 +51,7 @@ struct Outside<'a> {
 
 // What `ngac run` does with the input.
 fn check_run(
-    rt: &(impl Abort + Alloc<A = Global>),
+    rt: &(impl Threads + Abort + Alloc<A = Global> + Sync),
     outside: &Outside<'_>,
     input: &[u8],
     status: Status,
@@ -61,7 +62,10 @@ fn check_run(
     let mut out = MemSink::new(alloc, outside.room, outside.writes)?;
     let mut err = MemSink::new(alloc, 64, &[])?;
     let args = Ok(args(alloc, &["run"])?);
-    assert_eq!(rt; top(alloc, args, &mut source, &mut out, &mut err), status);
+    assert_eq!(rt;
+        top(rt, alloc, args, &mut source, &mut out, &mut err),
+        status
+    );
     assert_eq!(rt; out.taken(), output);
     assert_eq!(rt; err.taken(), status.text().as_bytes());
     Ok(())
@@ -172,7 +176,7 @@ fn replies_to_a_piece_are_written_together(rt: HostRuntime) -> Result<(), Fail> 
         let mut source = MemSource::new(alloc, input, &[read])?;
         let sink = MemSink::new(alloc, 2 * ROOM, &[write])?;
         let mut out = Counted { sink, writes: 0 };
-        let found = run_lines(alloc, LIMIT, &mut source, &mut out);
+        let found = run_lines(&rt, alloc, LIMIT, &mut source, &mut out);
         assert_eq!(rt; found, status);
         assert_eq!(rt; out.writes, writes);
         assert_eq!(rt; out.sink.taken().len(), bytes);
@@ -196,7 +200,7 @@ fn a_run_stops_at_its_limit(rt: HostRuntime) -> Result<(), Fail> {
         let mut source = CalmSource::new(alloc, &twice)?;
         let mut out = MemSink::new(alloc, ROOM, &[])?;
         assert_eq!(rt;
-            run_lines(alloc, limit, &mut source, &mut out),
+            run_lines(&rt, alloc, limit, &mut source, &mut out),
             status,
             "at {limit}"
         );
@@ -229,24 +233,65 @@ impl Source for Pieces {
     }
 }
 
+const USAGE: &str = "usage: ngac run | ngac serve PORT WORKERS\n";
+
 #[test]
 fn other_words_are_usage(rt: HostRuntime) -> Result<(), Fail> {
     let alloc = rt.alloc();
-    let table = [[].as_slice(), &["run", "x"], &["walk"], &["run "]];
+    let table = [
+        [].as_slice(),
+        &["run", "x"],
+        &["walk"],
+        &["run "],
+        &["serve", "1"],
+        &["serve", "0", "33"],
+        &["serve", "0", "0"],
+        &["serve", "01", "2"],
+        &["serve", "65536", "2"],
+        &["serve", "+1", "2"],
+        &["serve", "1", "2", "3"],
+        &["--help"],
+    ];
     for texts in table {
         let mut source = CalmSource::new(alloc, FILES)?;
         let mut out = MemSink::new(alloc, ROOM, &[])?;
         let mut err = MemSink::new(alloc, 64, &[])?;
         let args = Ok(args(alloc, texts)?);
-        let status = top(alloc, args, &mut source, &mut out, &mut err);
+        let status = top(&rt, alloc, args, &mut source, &mut out, &mut err);
         assert_eq!(rt; status, Status::Usage);
-        assert_eq!(rt; err.taken(), b"usage: ngac run\n".as_slice());
+        assert_eq!(rt; err.taken(), USAGE.as_bytes());
         assert!(rt; out.taken().is_empty());
         assert_eq!(rt;
-            run_lines(alloc, LIMIT, &mut source, &mut out),
+            run_lines(&rt, alloc, LIMIT, &mut source, &mut out),
             Status::Done
         );
         assert_eq!(rt; out.taken(), DONE);
+    }
+    Ok(())
+}
+
+// Nothing is read or written yet where a server is asked for.
+#[test]
+fn a_server_is_asked_for(rt: HostRuntime) -> Result<(), Fail> {
+    let alloc = rt.alloc();
+    let table = [
+        (["serve", "8080", "2"], 8080, 2),
+        (["serve", "0", "1"], 0, 1),
+        (["serve", "65535", "32"], 65535, 32),
+    ];
+    for (texts, port, workers) in table {
+        let mut source = CalmSource::new(alloc, FILES)?;
+        let mut out = MemSink::new(alloc, ROOM, &[])?;
+        let mut err = MemSink::new(alloc, 64, &[])?;
+        let args = Ok(args(alloc, &texts)?);
+        let status = top(&rt, alloc, args, &mut source, &mut out, &mut err);
+        assert_eq!(rt; status, Status::Serve { port, workers });
+        assert!(rt; out.taken().is_empty());
+        assert!(rt; err.taken().is_empty());
+        assert_eq!(rt;
+            run_lines(&rt, alloc, LIMIT, &mut source, &mut out),
+            Status::Done
+        );
     }
     Ok(())
 }
@@ -264,7 +309,10 @@ fn words_that_cannot_be_had_end_the_run(rt: HostRuntime) -> Result<(), Fail> {
         let mut out = MemSink::new(alloc, ROOM, &[])?;
         let mut err = MemSink::new(alloc, 64, &[])?;
         let args = Err(Error::from(kind));
-        assert_eq!(rt; top(alloc, args, &mut source, &mut out, &mut err), status);
+        assert_eq!(rt;
+            top(&rt, alloc, args, &mut source, &mut out, &mut err),
+            status
+        );
         assert!(rt; out.taken().is_empty());
         assert_eq!(rt; err.taken(), status.text().as_bytes());
     }
@@ -284,7 +332,10 @@ fn a_failing_err_changes_no_status(rt: HostRuntime) -> Result<(), Fail> {
         let mut out = MemSink::new(alloc, ROOM, &[])?;
         let mut err = MemSink::new(alloc, room, &[failing])?;
         let args = Ok(args(alloc, &[word])?);
-        assert_eq!(rt; top(alloc, args, &mut source, &mut out, &mut err), status);
+        assert_eq!(rt;
+            top(&rt, alloc, args, &mut source, &mut out, &mut err),
+            status
+        );
         assert_eq!(rt; err.taken(), said);
     }
     Ok(())
@@ -294,11 +345,12 @@ fn a_failing_err_changes_no_status(rt: HostRuntime) -> Result<(), Fail> {
 fn statuses_have_their_numbers_and_texts(rt: HostRuntime) {
     let table = [
         (Status::Done, 0, ""),
-        (Status::Usage, 2, "usage: ngac run\n"),
+        (Status::Usage, 2, USAGE),
         (Status::ReadFault, 3, "ngac: read failed\n"),
         (Status::WriteFault, 4, "ngac: write failed\n"),
         (Status::Memory, 5, "ngac: out of memory\n"),
         (Status::TooMuch, 6, "ngac: too much input\n"),
+        (Status::ListenFault, 7, "ngac: listen failed\n"),
     ];
     for (status, number, text) in table {
         assert_eq!(rt; status.number(), number);

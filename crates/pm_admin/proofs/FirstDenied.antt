@@ -2,9 +2,10 @@
 use Rattle.std.proofs.Common.{◌≡◌, ◌+◌, ◌<◌, ℕ, List, [], ◌∷◌, ◌++◌, length, map, drop, slice_get, Option, Some, None, IsSome, refl, sym, ◌∙◌, ap, subst, arith}
 use Rattle.std.proofs.lemmas.Option.{slice_get-get_or}
 use Rattle.pm_model.specs.State.{Graph, root}
-use Rattle.pm_model.specs.Authority.{denial_in, denied_unless, first_denied, prohibited_at, watched_at, obliged_at, required, to_prohibit, to_prohibit_to, subject_element}
+use Rattle.pm_model.specs.Authority.{denial_in, denied_unless, first_denied, prohibited_at, watched_at, obliged_at, kept_of, required, to_prohibit, to_prohibit_to, subject_element}
 use Rattle.pm_model.specs.declared.elements.Kind.{Kind}
 use Rattle.pm_model.specs.declared.elements.Kind.TheVariants.{User, Ua, Object, Oa, Pc}
+use Rattle.pm_model.specs.KeptReviews.{KeptReview, kept_at}
 use Rattle.pm_model.specs.declared.events.Pattern.{Pattern}
 use Rattle.pm_model.specs.declared.obligations.Obligation.{Obligation}
 use Rattle.pm_model.specs.declared.prohibitions.Prohibition.{Prohibition}
@@ -118,6 +119,10 @@ root-withdraw : (G : Graph) (q : Option ℕ) (o : Option Obligation) → first_d
 root-withdraw G q None = refl
 root-withdraw G q (Some o) = root-watch G q o.pattern
 
+root-drop : (G : Graph) (q : Option ℕ) (o : Option KeptReview) → first_denied G root q (kept_of o) ≡ None
+root-drop G q None = refl
+root-drop G q (Some k) = refl
+
 root-create : (G : Graph) (q : Option ℕ) (id : ℕ) (kind : Kind) (name : List ℕ) (into : Option ℕ) →
     first_denied G root q (required G (change.Create id kind name into)) ≡ None
 root-create G q id User name None = refl
@@ -143,6 +148,8 @@ root-allowed G q (change.Lift i) = root-lift G q (slice_get G.prohibitions i)
 root-allowed G q (change.Oblige o) = root-watch G q o.pattern
 root-allowed G q (change.Withdraw i) = root-withdraw G q (slice_get G.obligations i)
 root-allowed G q (change.DefineRight name) = refl
+root-allowed G q (change.Keep of) = refl
+root-allowed G q (change.DropReview n) = root-drop G q (kept_at G.kept n)
 root-allowed G q (change.OpenSession u) = refl
 root-allowed G q (change.CloseSession n) = refl
 root-allowed G q (change.StartProcess n) = refl

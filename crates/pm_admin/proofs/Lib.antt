@@ -1,6 +1,6 @@
 mod FirstDenied
 mod Found
-pub mod Granting
+mod KeptOf
 mod Places
 mod Reasons
 mod RightNames

@@ -7,7 +7,7 @@ use Rattle.pm_laws.proofs.Items.{each-all, each-at, each-to, get-contains}
 use Rattle.pm_laws.proofs.Obligations.{watched-live}
 use Rattle.pm_pattern.specs.Live.{IsGivenLive, IsPatternLive}
 use Rattle.pm_runner.specs.Standing.{ArePatternsLive}
-use Rattle.pm_admin.specs.Containing.{relation_in}
+use Rattle.pm_state.specs.Containing.{relation_in}
 
 pub pattern-live : (G : Graph) (i : ℕ) (o : Obligation) → IsWellFormed G → slice_get G.obligations i ≡ Some o →
     IfSome o.pattern.user (IsLive G.elements) × IfSome o.pattern.target (IsLive G.elements)

@@ -1,4 +1,3 @@
-pub mod Containing
 pub mod Resolved
 pub mod Rights
 pub mod Ruled

@@ -2,11 +2,12 @@
 ghost use Rattle.std.specs.Prelude.{◌≡◌, ◌<◌, [], ◌∷◌, map};
 ghost use Rattle.pm_model.specs.declared.elements.Kind.{Kind};
 ghost use Rattle.pm_model.specs.declared.requests.Change.TheVariants as change;
-ghost use Rattle.pm_model.specs.Authority.{first_denied, required, right_name, right_to_create, subject_element, to_prohibit_to};
+ghost use Rattle.pm_model.specs.Authority.{first_denied, required, right_name, right_to_create, subject_element};
 ghost use Rattle.pm_model.specs.Formed.{Each, IsLive, IsSubjectLive};
 ghost use Rattle.pm_admin.specs.Resolved.{IsFound};
 
 use crate::denials::denial;
+use crate::keeping::{denied_drop, denied_keep};
 use crate::obliging::{denied_oblige, denied_withdraw};
 use pm_model::{Bars, Change, ElementId, Kind, Name, PlaceList, Prohibition, Refusal, Subject};
 use pm_state::Graph;
@@ -91,18 +92,21 @@ pub(crate) fn denied_pair(
     }
 }
 
-fn denied_on_places(
+// The same right on each of the elements, in their order.
+pub(crate) fn denied_on(
     graph: &Graph,
     user: ElementId,
     process: Option<u32>,
+    right: u8,
     places: &PlaceList,
 ) -> Option<Refusal>
+    requires right { right < 17 }
     requires user { IsLive graph.now.elements user }
     requires places { Each (IsLive graph.now.elements) places.now }
-    ensures { result ≡ first_denied graph.now user process (map (λ a. (to_prohibit_to, a)) places.now) }
+    ensures { result ≡ first_denied graph.now user process (map (λ a. (right, a)) places.now) }
 {
     for i in 0..places.len() {
-        match denied(graph, user, process, TO_PROHIBIT_TO, *places.at(i)) {
+        match denied(graph, user, process, right, *places.at(i)) {
             Some(why) => return Some(why),
             None => {}
         }
@@ -142,11 +146,11 @@ fn denied_prohibit(
         Some(why) => return Some(why),
         None => {}
     }
-    match denied_on_places(graph, user, process, &item.inc) {
+    match denied_on(graph, user, process, TO_PROHIBIT_TO, &item.inc) {
         Some(why) => return Some(why),
         None => {}
     }
-    denied_on_places(graph, user, process, &item.exc)
+    denied_on(graph, user, process, TO_PROHIBIT_TO, &item.exc)
 }
 
 fn denied_lift(graph: &Graph, user: ElementId, process: Option<u32>, index: u32) -> Option<Refusal>
@@ -195,6 +199,8 @@ pub(crate) fn denied_change(
         Change::DefineRight { .. } => {
             denied(graph, user, process, right_to_create(Kind::Pc), PM)
         }
+        Change::Keep { of } => denied_keep(graph, user, process, *of),
+        Change::DropReview { review } => denied_drop(graph, user, process, *review),
         Change::OpenSession { .. }
         | Change::CloseSession { .. }
         | Change::StartProcess { .. }

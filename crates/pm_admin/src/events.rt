@@ -5,7 +5,7 @@ ghost use Rattle.pm_model.specs.Formed.{IsLive, IsNamed};
 ghost use Rattle.pm_model.specs.Words.{word_text};
 ghost use Rattle.pm_pattern.specs.Live.{IsEventLive};
 ghost use Rattle.pm_runner.specs.Standing.{ArePatternsLive};
-ghost use Rattle.pm_admin.specs.Containing.{relation_in};
+ghost use Rattle.pm_state.specs.Containing.{relation_in};
 
 use crate::capabilities::{PM, subject_element};
 use crate::obliging::target_element;
@@ -85,12 +85,15 @@ fn done_to(graph: &Graph, change: &Change) -> Option<(Word, ElementId)>
         Change::OpenSession { .. }
         | Change::CloseSession { .. }
         | Change::StartProcess { .. }
-        | Change::EndProcess { .. } => None,
+        | Change::EndProcess { .. }
+        | Change::Keep { .. }
+        | Change::DropReview { .. } => None,
     }
 }
 
 /// The event that the change raises, where the user makes it by the process: told of the element that
-/// the command is done to, before it is. None exactly where a session or a process comes or goes.
+/// the command is done to, before it is. None exactly where a session, a process or a kept review comes or
+/// goes.
 pub fn raised(graph: &Graph, user: ElementId, process: u32, change: &Change) -> Option<Event>
     requires user { IsLive graph.now.elements user }
     requires named { IsNamed graph.now change.now }

@@ -5,6 +5,7 @@ ghost use Rattle.pm_model.specs.State.{root};
 ghost use Rattle.pm_admin.specs.Resolved.{Finds, holds_lists};
 ghost use Rattle.pm_admin.specs.Rights.{with_named};
 
+use crate::keeping::{drop_review, keep};
 use crate::patterns::oblige;
 use crate::prohibiting::prohibit;
 use pm_model::{Change, ChangeError, Command, ElementId, Kind, Name, NameList, Refusal, Rights};
@@ -208,5 +209,7 @@ pub(crate) fn resolve(
             response,
         } => oblige(graph, user, *name, when, response),
         Command::Withdraw { name } => found(withdraw(graph, *name)),
+        Command::Keep { of } => found(keep(graph, *of)),
+        Command::DropReview { review } => found(drop_review(graph, *review)),
     }
 }

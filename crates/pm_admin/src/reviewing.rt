@@ -1,20 +1,19 @@
 //! The ruling on a review.
-ghost use Rattle.std.specs.Prelude.{◌≡◌, IfOk, Some, map};
+ghost use Rattle.std.specs.Prelude.{◌≡◌, IfOk, Some};
 ghost use Rattle.std.specs.List.{list_all};
-ghost use Rattle.pm_model.specs.Authority.{first_denied, required_by, subjects_of, to_review};
+ghost use Rattle.pm_model.specs.Authority.{first_denied, required_by, subjects_of};
 ghost use Rattle.pm_model.specs.Formed.{Each, IsLive};
 ghost use Rattle.pm_model.specs.Resolve.{resolve_question};
 ghost use Rattle.pm_model.specs.Results.{first_of};
 ghost use Rattle.pm_model.specs.Reviews.{is_user_at, review_checks, review_ruling};
 ghost use Rattle.pm_admin.specs.Resolved.{Finds};
 
-use crate::capabilities::denied;
+use crate::capabilities::{denied, denied_on};
+use crate::keeping::{TO_REVIEW, look_up_review, subject};
 use crate::names::look_up;
 use crate::prohibiting::look_up_all;
-use pm_model::{ChangeError, ElementId, Kind, Question, Refusal, Review, UserList};
-use pm_state::Graph;
-
-const TO_REVIEW: u8 = 16;
+use pm_model::{ChangeError, ElementId, Question, Refusal, Review, UserList};
+use pm_state::{Graph, is_user};
 
 // Only a list of users takes memory.
 fn resolve_question(graph: &Graph, question: &Question) -> Result<Review, ChangeError>
@@ -34,26 +33,18 @@ fn resolve_question(graph: &Graph, question: &Question) -> Result<Review, Change
             Err(ChangeError::Refused(why)) => Err(ChangeError::Refused(why)),
             Err(ChangeError::Memory) => Err(ChangeError::Memory),
         },
+        Question::Kept { review } => match look_up_review(graph, *review) {
+            Ok(of) => Ok(Review::Kept { of }),
+            Err(why) => Err(ChangeError::Refused(why)),
+        },
+        Question::Changes { review } => match look_up_review(graph, *review) {
+            Ok(of) => Ok(Review::Changes {
+                review: *review,
+                of,
+            }),
+            Err(why) => Err(ChangeError::Refused(why)),
+        },
     }
-}
-
-fn denied_on_users(
-    graph: &Graph,
-    user: ElementId,
-    process: Option<u32>,
-    users: &UserList,
-) -> Option<Refusal>
-    requires user { IsLive graph.now.elements user }
-    requires users { Each (IsLive graph.now.elements) users.now }
-    ensures { result ≡ first_denied graph.now user process (map (λ n. (to_review, n)) users.now) }
-{
-    for i in 0..users.len() {
-        match denied(graph, user, process, TO_REVIEW, *users.at(i)) {
-            Some(why) => return Some(why),
-            None => {}
-        }
-    }
-    None
 }
 
 fn denied_review(
@@ -69,16 +60,11 @@ fn denied_review(
     match review {
         Review::Caps { user: of } => denied(graph, user, process, TO_REVIEW, *of),
         Review::Entries { element } => denied(graph, user, process, TO_REVIEW, *element),
-        Review::Survey { users } => denied_on_users(graph, user, process, users),
+        Review::Survey { users } => denied_on(graph, user, process, TO_REVIEW, users),
+        Review::Kept { of } | Review::Changes { of, .. } => {
+            denied(graph, user, process, TO_REVIEW, subject(*of))
+        }
     }
-}
-
-/// Whether a live element is a user.
-pub fn is_user(graph: &Graph, id: ElementId) -> bool
-    requires { IsLive graph.now.elements id }
-    ensures { result ≡ is_user_at graph.now.elements id }
-{
-    matches!(graph.elements().kind(id), Kind::User)
 }
 
 fn are_users(graph: &Graph, users: &UserList) -> bool
@@ -100,7 +86,7 @@ fn unmet(graph: &Graph, review: &Review) -> Option<Refusal>
 {
     let fits = match review {
         Review::Caps { user } => is_user(graph, *user),
-        Review::Entries { .. } => true,
+        Review::Entries { .. } | Review::Kept { .. } | Review::Changes { .. } => true,
         Review::Survey { users } => are_users(graph, users),
     };
     if fits {
@@ -109,9 +95,10 @@ fn unmet(graph: &Graph, review: &Review) -> Option<Refusal>
     Some(Refusal::BadKinds)
 }
 
-/// The review that a question names, where the user and the process may have it: the first name that is unknown, in the
-/// order of the fields; then the first capability that is denied, a right to review for each name; then `BadKinds`, where
-/// what has to be a user isn't one. Only the list of a survey takes memory. What the review is of is live.
+/// The review that a question names, where the user and the process may have it: the first name or number that is unknown,
+/// in the order of the fields; then the first capability that is denied, a right to review for each element that the review
+/// is of; then `BadKinds`, where what has to be a user isn't one. Only the list of a survey takes memory. What the review
+/// is of is live.
 pub fn authorise_review(
     graph: &Graph,
     user: ElementId,
@@ -122,6 +109,7 @@ pub fn authorise_review(
     ensures value { Finds (review_ruling graph.now user (Some process) question.now) result }
     ensures live { IfOk result (λ r. Each (IsLive graph.now.elements) (subjects_of r)) }
 {
+    graph.formed();
     let review = match resolve_question(graph, question) {
         Ok(review) => review,
         Err(ChangeError::Refused(why)) => return Err(ChangeError::Refused(why)),

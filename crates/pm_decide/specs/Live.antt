@@ -1,5 +1,5 @@
 -- What a decision may ask about: elements that are live.
-use Rattle.std.specs.Prelude.{ℕ, List, IsTrue, All}
+use Rattle.std.specs.Prelude.{ℕ, Bool, true, List, IsTrue, All}
 use Rattle.pm_model.specs.Containment.{Relation}
 use Rattle.pm_model.specs.declared.prohibitions.Prohibition.{Prohibition}
 use Rattle.pm_model.specs.declared.prohibitions.Subject.{Subject}
@@ -23,10 +23,13 @@ abbrev pub EndsLive : Relation → List Grantee → Type 0
 EndsLive relation gs = All (GranteeLive relation) gs
 
 -- the subject, where it is an element
+abbrev pub is_subject_live : Relation → Subject ℕ ℕ → Bool
+is_subject_live relation (User x) = relation.live x
+is_subject_live relation (Ua x) = relation.live x
+is_subject_live relation (Process p) = true
+
 abbrev pub SubjectLive : Relation → Subject ℕ ℕ → Type 0
-SubjectLive relation (User x) = IsLive relation x
-SubjectLive relation (Ua x) = IsLive relation x
-SubjectLive relation (Process p) = Unit {0}
+SubjectLive relation s = IsTrue (is_subject_live relation s)
 
 -- all that the prohibition names
 pub record NamesLive (relation : Relation) (p : Prohibition) : Type 0 where

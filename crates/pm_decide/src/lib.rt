@@ -19,7 +19,7 @@ mod words;
 
 pub use laws::decision_said;
 use pm_model::{Bars, ClassList, ElementId, Grant, Grantee, Grants, Reach};
-pub use prohibitions::first_applying;
+pub use prohibitions::{applies, first_applying, in_range};
 pub use rights::rights_of;
 pub use verdict::Verdict;
 use words::{holders_above, lowest, without_bit};

@@ -53,7 +53,7 @@ fn out_of_some<R: Reach>(reach: &mut R, places: &PlaceList, element: ElementId) 
 }
 
 /// Whether the element lies in the prohibition's range.
-pub(crate) fn in_range<R: Reach>(reach: &mut R, bar: &Prohibition, element: ElementId) -> bool
+pub fn in_range<R: Reach>(reach: &mut R, bar: &Prohibition, element: ElementId) -> bool
     requires bar { NamesLive (R.relation reach.old) bar.now }
     requires element { IsLive (R.relation reach.old) element }
     ensures answer { result ≡ range_by (R.relation reach.old).below bar.now.mode bar.now.inc bar.now.exc element }
@@ -67,7 +67,7 @@ pub(crate) fn in_range<R: Reach>(reach: &mut R, bar: &Prohibition, element: Elem
 
 /// Whether the prohibition's subject is the user, a user attribute that the user is in, or the
 /// process. Only a user attribute costs a question of containment.
-pub(crate) fn applies<R: Reach>(
+pub fn applies<R: Reach>(
     reach: &mut R,
     bar: &Prohibition,
     user: ElementId,

@@ -22,6 +22,7 @@ use std::alloc::Global;
 use std::marker::Model;
 use std::sync::Wait;
 use std::sync::ledger::Book;
+use std::thread::Threads;
 
 /// What the desk makes of a request.
 #[derive(Drop)]
@@ -212,12 +213,17 @@ impl<K: Keep + Drop, H: Home> Desk<K, H> {
     }
 
     // What the machine makes of the request, as the next entry of the lane.
-    fn stepped(&self, lane: &Lane<H>, request: &Request) -> Result<Stepped, Memory>
+    fn stepped<R: Threads + Sync>(
+        &self,
+        rt: &R,
+        lane: &Lane<H>,
+        request: &Request,
+    ) -> Result<Stepped, Memory>
         requires { lane.now.share ≡ count_by_seat lane.now.seat self.now.0.history }
         ensures { IfOk result (IsStep self.now.0 (entry_by lane.now request.now)) }
     {
         let nth = self.number_of(lane.seat()) + 1;
-        step(self.shown(), lane.seat(), nth, request)
+        step(rt, self.shown(), lane.seat(), nth, request)
     }
 
     // Publishes the next state, once its last entry is kept. All memory is taken before the keeper is asked.
@@ -253,7 +259,7 @@ impl<K: Keep + Drop, H: Home> Desk<K, H> {
     }
 
     // What comes of the request.
-    fn taken<R: Wait>(
+    fn taken<R: Threads + Wait + Sync>(
         &mut self,
         rt: &R,
         alloc: Global,
@@ -266,7 +272,7 @@ impl<K: Keep + Drop, H: Home> Desk<K, H> {
         ensures err { OnErr result ((self.new.0 ≡ self.old.0) × (lane.new ≡ lane.old)) }
         ensures calm { OnErr result (K.faults self.new.1 ≡ K.faults self.old.1) }
     {
-        match self.stepped(lane, request) {
+        match self.stepped(rt, lane, request) {
             Ok(Stepped::Answered(reply)) => Ok(Outcome::Answered(reply)),
             Ok(Stepped::Accepted(next, reply)) => self.enter(rt, alloc, lane, request, next, reply),
             Err(Memory) => Err(Memory),
@@ -276,8 +282,8 @@ impl<K: Keep + Drop, H: Home> Desk<K, H> {
     /// The machine's answer to a request of a lane, whose share is how many entries of its seat the history has. Where
     /// the machine accepts it, the history gets it as the lane's next entry, unless the keeper fails in this call. Then,
     /// and where the machine doesn't accept it, all is as before, and so it is on Memory, which comes before the keeper
-    /// has kept the entry or not at all.
-    pub fn accept<R: Wait>(
+    /// has kept the entry or not at all. A `survey` may start threads, which end within the call.
+    pub fn accept<R: Threads + Wait + Sync>(
         &mut self,
         rt: &R,
         alloc: Global,

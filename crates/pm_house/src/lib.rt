@@ -13,7 +13,7 @@ pub use desk::{Desk, Outcome, Submitted};
 pub use home::Home;
 pub use house::House;
 pub use lane::Lane;
-pub use opening::{house_room, opening_room};
+pub use opening::house_room;
 pub use seat::{Looked, Replied, Seat};
 pub use seats::Seats;
 

@@ -18,6 +18,7 @@ use pm_step::{Glance, glance};
 use std::alloc::Global;
 use std::marker::Model;
 use std::sync::Wait;
+use std::thread::Threads;
 
 /// What a seat was told by the desk: a reply, and the version that it was made from or made.
 #[derive(Drop)]
@@ -116,8 +117,8 @@ impl<H: Home> Seat<H> {
     /// A look at what is published, and the machine's answer to the request at the version that the seat then shows, or
     /// that the desk is needed, as `glance` says. An access and a question for the version take no memory; on Memory the
     /// seat has looked. Where the version that is published can't be entered, the seat goes on with the one that it
-    /// holds.
-    pub fn look(&mut self, request: &Request) -> Result<Looked, Memory>
+    /// holds. A `survey` may start threads, which end within the call.
+    pub fn look<R: Threads + Sync>(&mut self, rt: &R, request: &Request) -> Result<Looked, Memory>
         ensures ok { IfOk result (Looks self.old self.new request.now) }
         ensures err { OnErr result (Rests self.old self.new) }
         ensures mark { self.new.mark ≡ self.old.mark }
@@ -126,7 +127,7 @@ impl<H: Home> Seat<H> {
         self.enter();
         self.shown().replayed();
         let version = self.shown().version();
-        match glance(self.shown(), request) {
+        match glance(rt, self.shown(), request) {
             Ok(Glance::Answer(reply)) => Ok(Looked::Answer { reply, version }),
             Ok(Glance::NeedsDesk) => Ok(Looked::GoDesk),
             Err(Memory) => Err(Memory),
@@ -162,7 +163,7 @@ impl<H: Home> Seat<H> {
     }
 
     // Asks the desk, whose version the seat shows up to the mark.
-    fn ask<K: Keep + Drop, R: Wait>(
+    fn ask<K: Keep + Drop, R: Threads + Wait + Sync>(
         &mut self,
         rt: &R,
         alloc: Global,
@@ -189,7 +190,7 @@ impl<H: Home> Seat<H> {
 
     // One try. None where the desk can't tell the seat its version now.
     #[tactic(auto, using(crate::proofs::Sitting::rests_then, crate::proofs::Sitting::rests_submits))]
-    fn attempt<K: Keep + Drop, R: Wait>(
+    fn attempt<K: Keep + Drop, R: Threads + Wait + Sync>(
         &mut self,
         rt: &R,
         alloc: Global,
@@ -211,9 +212,10 @@ impl<H: Home> Seat<H> {
 
     /// Asks the desk, and is told the version that the reply was made from or made: the seat then shows it. What the
     /// machine accepts is this seat's next entry, once and for all. `KeepFault` comes only where the keeper failed; the
-    /// same request may then be submitted again. On Memory the request is no entry.
+    /// same request may then be submitted again. On Memory the request is no entry. A `survey` may start threads, which
+    /// end within the call.
     #[tactic(auto, using(crate::proofs::Sitting::rests_then, crate::proofs::Sitting::rests_submits))]
-    pub fn submit<K: Keep + Drop, R: Wait>(
+    pub fn submit<K: Keep + Drop, R: Threads + Wait + Sync>(
         &mut self,
         rt: &R,
         alloc: Global,

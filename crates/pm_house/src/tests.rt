@@ -4,7 +4,7 @@ ghost use Rattle.std.specs.Prelude.{◌≡◌, ◌<◌, ◌≤◌, [], IfSome};
 
 mod asking;
 
-use crate::{Home, House, Seat, Seats, house_room, opening_room};
+use crate::{Home, House, Seat, Seats, house_room};
 use asking::{
     Ask, Told, fault_at, letter, look, never_falls, policy, request, start_processes, submit,
 };
@@ -33,11 +33,10 @@ fn house_of<K: Keep + Drop, H: Home, R: Abort + Alloc<A = Global>>(
     requires seats { (0 < seats) × (seats ≤ 32) × (H.all ≡ seats) × (H.parts ≡ seats) }
     requires keeper { IfSome (K.kept keeper) (λ es. es ≡ []) }
 {
-    let room = opening_room::<H>(rt.alloc(), opened, seats).expect(rt, "memory");
-    House::new(rt.alloc(), room, blank, keeper, seats).expect(rt, "memory")
+    House::open(rt.alloc(), opened, blank, keeper, seats).expect(rt, "memory")
 }
 
-fn first_requests<H: Home, R: Wait + Abort + Alloc<A = Global>>(
+fn first_requests<H: Home, R: Threads + Wait + Abort + Alloc<A = Global> + Sync>(
     rt: &R,
     opened: Opened,
     blank: Blank,
@@ -54,7 +53,7 @@ fn first_requests<H: Home, R: Wait + Abort + Alloc<A = Global>>(
     assert_eq!(rt; submit(rt, &house, &mut two, &inside), (Told::Done, 2));
 }
 
-fn ask_for_a_class<H: Home, R: Wait + Abort + Alloc<A = Global>>(
+fn ask_for_a_class<H: Home, R: Threads + Wait + Abort + Alloc<A = Global> + Sync>(
     rt: &R,
     house: &House<NoKeep, H>,
     seat: &mut Seat<H>,
@@ -74,7 +73,7 @@ fn a_look_answers_and_the_desk_accepts(rt: HostRuntime) {
     first_requests::<Brand, _>(&rt, opened, blank)
 }
 
-fn policy_of_a_stranger<H: Home, R: Wait + Abort + Alloc<A = Global>>(
+fn policy_of_a_stranger<H: Home, R: Threads + Wait + Abort + Alloc<A = Global> + Sync>(
     rt: &R,
     opened: Opened,
     blank: Blank,
@@ -95,7 +94,7 @@ fn policy_of_a_stranger<H: Home, R: Wait + Abort + Alloc<A = Global>>(
 }
 
 // The one has made the policy and taken from `ann` what she could read: so the other is told.
-fn read_as_denied<H: Home, R: Wait + Abort + Alloc<A = Global>>(
+fn read_as_denied<H: Home, R: Threads + Wait + Abort + Alloc<A = Global> + Sync>(
     rt: &R,
     house: &House<NoKeep, H>,
     one: &mut Seat<H>,
@@ -115,7 +114,7 @@ fn a_stranger_is_told_of_the_policy(rt: HostRuntime) {
     policy_of_a_stranger::<Brand, _>(&rt, opened, blank)
 }
 
-fn keeper_fails<H: Home, R: Wait + Abort + Alloc<A = Global>>(
+fn keeper_fails<H: Home, R: Threads + Wait + Abort + Alloc<A = Global> + Sync>(
     rt: &R,
     opened: Opened,
     blank: Blank,
@@ -162,7 +161,7 @@ where
     fine: bool,
 }
 
-fn act<H: Home, R: Wait + Abort + Alloc<A = Global>>(
+fn act<H: Home, R: Threads + Wait + Abort + Alloc<A = Global> + Sync>(
     rt: &R,
     house: &House<NoKeep, H>,
     caller: &mut Caller<H>,

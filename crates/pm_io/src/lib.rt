@@ -9,6 +9,7 @@ mod keepers;
 mod links;
 mod mem_link;
 mod memory;
+mod mio_link;
 mod moving;
 mod streams;
 
@@ -17,6 +18,7 @@ pub use keepers::{MemKeep, NoKeep};
 pub use links::{Link, LinkRead, LinkWrite};
 pub use mem_link::MemLink;
 pub use memory::{MemSink, MemSource};
+pub use mio_link::MioLink;
 pub use streams::{StdSink, StdSource};
 
 #[cfg(test)]

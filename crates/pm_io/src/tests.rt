@@ -1,5 +1,7 @@
 //! What reads and writes answer, one after another, with chosen calls failing.
 
+mod sockets;
+
 use crate::{
     CalmSink, CalmSource, Link, LinkRead, LinkWrite, MemKeep, MemLink, MemSink, MemSource, NoKeep,
     StdSink, StdSource,

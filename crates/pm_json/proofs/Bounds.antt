@@ -7,7 +7,7 @@ use Rattle.serde_json.specs.Data.{Data, number, unsigned}
 use Rattle.serde_json.specs.Written.{comma_if, items_text}
 use Rattle.pm_model.specs.Name.{is_name}
 use Rattle.pm_model.specs.Object.{items_of, listed, whole_if, texted}
-use Rattle.pm_model.specs.Text.{text, front, back, bad_front, list_front, survey_front, pair_told, count_told, rights_text, no_front, done_front, fired_if, granted_front, response_front, refusal_word, process_shown, session_shown, unknown_front, full_front, denied_front, refusal_front, table_word, said}
+use Rattle.pm_model.specs.Text.{text, front, back, bad_front, list_front, survey_front, changes_front, pair_told, count_told, change_told, rights_text, no_front, done_front, fired_if, granted_front, response_front, refusal_word, process_shown, review_shown, session_shown, unknown_front, full_front, denied_front, refusal_front, table_word, said}
 use Rattle.pm_model.specs.Words.{key_text, word_text}
 use Rattle.pm_model.specs.declared.words.Key.{Key}
 use Rattle.pm_model.specs.declared.words.Key.TheVariants as key
@@ -19,14 +19,15 @@ use Rattle.pm_model.specs.declared.lines.BadLine.TheVariants.{TooLong, NotJson, 
 use Rattle.pm_model.specs.declared.replies.Refusal.{Refusal}
 use Rattle.pm_model.specs.declared.replies.Refusal.TheVariants as refusal
 use Rattle.pm_model.specs.declared.replies.Reply.{Reply}
-use Rattle.pm_model.specs.declared.replies.Reply.TheVariants.{Done, Granted, Caps, Entries, Survey, Bad, Ahead, Refused, ResponseRefused, KeepFault}
+use Rattle.pm_model.specs.declared.replies.Reply.TheVariants.{Done, Granted, Caps, Entries, Survey, Kept, Changes, Bad, Ahead, Refused, ResponseRefused, KeepFault}
+use Rattle.pm_model.specs.declared.reviews.Changed.{Changed}
 use Rattle.pm_model.specs.declared.reviews.Pair.{Pair}
 use Rattle.pm_model.specs.declared.replies.Reason.{Reason}
 use Rattle.pm_model.specs.declared.replies.Reason.TheVariants.{Class, Prohibition}
 use Rattle.pm_model.specs.declared.replies.Shown.{Shown}
 use Rattle.pm_model.specs.declared.replies.Shown.TheVariants as shown
 use Rattle.pm_model.specs.declared.replies.Table.{Table}
-use Rattle.pm_json.specs.Printable.{names_in, names_in_refusal, names_in_reason, names_of_pairs, numbers_in, numbers_in_shown, rights_of_pairs, ShowsNames, ShowsNumbers, IsPrintable}
+use Rattle.pm_json.specs.Printable.{names_in, names_in_refusal, names_in_reason, names_of_changes, names_of_pairs, numbers_in, numbers_in_shown, rights_of_changes, rights_of_pairs, ShowsNames, ShowsNumbers, IsPrintable}
 use Rattle.pm_json.specs.Growth.{front_most_of, reply_most}
 use Rattle.pm_json.specs.Members.{item_text, items_front, keyed, leading, leading_all, trailing, trailing_all}
 use Rattle.pm_json.proofs.Distinct.{by_test}
@@ -97,17 +98,25 @@ process_size : (made : Shown) → ShowsNumbers (numbers_in_shown made) → lengt
 process_size shown.Nothing n = number_size key.Process None tt
 process_size (shown.Session m) n = number_size key.Process None tt
 process_size (shown.Process m) n = number_size key.Process (Some m) n.0
+process_size (shown.Review m) n = number_size key.Process None tt
+
+review_size : (made : Shown) → ShowsNumbers (numbers_in_shown made) → length (trailing (key_text key.Review) (whole_if (review_shown made))) ≤ 88
+review_size shown.Nothing n = number_size key.Review None tt
+review_size (shown.Session m) n = number_size key.Review None tt
+review_size (shown.Process m) n = number_size key.Review None tt
+review_size (shown.Review m) n = number_size key.Review (Some m) n.0
 
 session_size : (made : Shown) → ShowsNumbers (numbers_in_shown made) → length (trailing (key_text key.Session) (whole_if (session_shown made))) ≤ 88
 session_size shown.Nothing n = number_size key.Session None tt
 session_size (shown.Session m) n = number_size key.Session (Some m) n.0
 session_size (shown.Process m) n = number_size key.Session None tt
+session_size (shown.Review m) n = number_size key.Session None tt
 
 done_size : (h : Head) (fired : ℕ) (made : Shown) → HasNumber h → fired < 2 ^ 64 → ShowsNumbers (numbers_in_shown made)
     → length (trailing_all (done_front h fired made)) ≤ 758
 done_size h fired made i f n =
     let e = more _ _ _ _ (fired_size fired f) (more _ _ _ _ (number_size key.Id h.id i) (more _ _ _ _ (word_size key.Ok word.Done)
-    (more _ _ _ _ (process_size made n) (more _ [] _ 0 (session_size made n) ended)))) in
+    (more _ _ _ _ (process_size made n) (more _ _ _ _ (review_size made n) (more _ [] _ 0 (session_size made n) ended))))) in
     omega (arith, e)
 
 bad_size : (h : Head) (bad : BadLine) → HasNumber h → length (trailing_all (bad_front h bad)) ≤ 758
@@ -141,6 +150,7 @@ denied_size h names right target (Prohibition name) i n =
 refusal_size : (h : Head) (names : ℕ → List ℕ) (why : Refusal) → HasNumber h → ShowsNames (names_in_refusal names why) → length (trailing_all (refusal_front h names why)) ≤ 758
 refusal_size h names refusal.UnknownProcess i n = let e = no_size h word.UnknownProcess i in omega (arith, e)
 refusal_size h names refusal.UnknownSession i n = let e = no_size h word.UnknownSession i in omega (arith, e)
+refusal_size h names refusal.UnknownReview i n = let e = no_size h word.UnknownReview i in omega (arith, e)
 refusal_size h names refusal.BadKinds i n = let e = no_size h word.BadKinds i in omega (arith, e)
 refusal_size h names refusal.NameTaken i n = let e = no_size h word.NameTaken i in omega (arith, e)
 refusal_size h names refusal.Already i n = let e = no_size h word.Already i in omega (arith, e)
@@ -179,7 +189,7 @@ item_size later name value n short =
     let d = length-append value (93 ∷ []) in
     omega (arith, c, q, a, b, d, short)
 
-rights_size : (rights : ℕ) → rights < 2 ^ 64 → length (quoted (rights_text rights)) ≤ 20
+rights_size : (rights : ℕ) → rights < 2 ^ 64 → length (quoted (rights_text rights)) ≤ 18
 rights_size rights fits =
     let e = ap length (hex_quoted rights) in
     let d = hex_length rights fits in
@@ -190,9 +200,33 @@ pairs_size : (names : ℕ → List ℕ) (later : Bool) (list : List Pair) → Sh
     length (items_front later (map (pair_told names) list)) ≤ 90 * length list
 pairs_size names later [] m n = omega arith
 pairs_size names later (p ∷ ps) m n =
-    let here = item_size later (names p.element) (quoted (rights_text p.rights)) n.0 (rights_size p.rights m.0) in
+    let here = item_size later (names p.element) (quoted (rights_text p.rights)) n.0 (let short = rights_size p.rights m.0 in omega (arith, short)) in
     let rest = pairs_size names true ps m.1 n.1 in
     let a = length-append (item_text later (pair_told names p)) (items_front true (map (pair_told names) ps)) in
+    omega (arith, here, rest, a)
+
+-- a name and two more values of at most 18 bytes each
+change_size : (later : Bool) (c : Changed) → IsTrue (is_name c.name) → c.old < 2 ^ 64 → c.new < 2 ^ 64 → length (item_text later (change_told c)) ≤ 107
+change_size later c named old new =
+    let was = quoted (rights_text c.old) in
+    let is = quoted (rights_text c.new) in
+    let comma = comma_size later in
+    let q = quoted_size c.name named in
+    let short = rights_size c.old old in
+    let brief = rights_size c.new new in
+    let a = length-append (comma_if later) (91 ∷ (quoted c.name ++ 44 ∷ (was ++ 44 ∷ (is ++ 93 ∷ [])))) in
+    let b = length-append (quoted c.name) (44 ∷ (was ++ 44 ∷ (is ++ 93 ∷ []))) in
+    let d = length-append was (44 ∷ (is ++ 93 ∷ [])) in
+    let e = length-append is (93 ∷ []) in
+    omega (arith, comma, q, short, brief, a, b, d, e)
+
+changes_size : (later : Bool) (list : List Changed) → ShowsNumbers (rights_of_changes list) → ShowsNames (names_of_changes list) →
+    length (items_front later (map change_told list)) ≤ 107 * length list
+changes_size later [] m n = omega arith
+changes_size later (c ∷ cs) m n =
+    let here = change_size later c n.0 m.0 m.1.0 in
+    let rest = changes_size true cs m.1.1 n.1 in
+    let a = length-append (item_text later (change_told c)) (items_front true (map change_told cs)) in
     omega (arith, here, rest, a)
 
 counts_size : (names : ℕ → List ℕ) (later : Bool) (users counts : List ℕ) → ShowsNumbers counts → ShowsNames (map names users) →
@@ -229,6 +263,13 @@ survey_size h names users counts i m n =
     (more _ _ _ _ (number_size key.Id h.id i) (more _ [] _ 0 (word_size key.Ok word.Survey) ended)) in
     omega (arith, e)
 
+changed_size : (h : Head) (at : ℕ) (list : List Changed) → HasNumber h → at < 2 ^ 64 → ShowsNumbers (rights_of_changes list) →
+    ShowsNames (names_of_changes list) → length (trailing_all (changes_front h at list)) ≤ 758 + 107 * length list
+changed_size h at list i v m n =
+    let e = more _ _ _ _ (number_size key.At (Some at) v) (more _ _ _ _ (number_size key.Id h.id i)
+    (more _ _ _ _ (listed_size key.List (map change_told list) _ (changes_size false list m n)) (more _ [] _ 0 (word_size key.Ok word.Changes) ended))) in
+    omega (arith, e)
+
 front_size : (h : Head) (names : ℕ → List ℕ) (reply : Reply) → HasNumber h → ShowsNumbers (numbers_in reply) → ShowsNames (names_in names reply)
     → length (trailing_all (front h names reply)) ≤ front_most_of reply
 front_size h names (Done fired made) i m n = done_size h fired made i m.0 m.1
@@ -236,6 +277,8 @@ front_size h names (Granted fired) i m n = granted_size h fired i m.0
 front_size h names (Caps list) i m n = list_size h names word.Caps list i m n
 front_size h names (Entries list) i m n = list_size h names word.Entries list i m n
 front_size h names (Survey users counts) i m n = survey_size h names users counts i m n
+front_size h names (Kept list) i m n = list_size h names word.Kept list i m n
+front_size h names (Changes at list) i m n = changed_size h at list i m.0 m.1 n
 front_size h names (Bad bad) i m n = bad_size h bad i
 front_size h names Ahead i m n = let e = no_size h word.Ahead i in omega (arith, e)
 front_size h names (Refused why) i m n = refusal_size h names why i n
@@ -258,6 +301,8 @@ back_size (Granted fired) = omega arith
 back_size (Caps list) = omega arith
 back_size (Entries list) = omega arith
 back_size (Survey users counts) = omega arith
+back_size (Kept list) = omega arith
+back_size (Changes at list) = omega arith
 back_size (Bad bad) = omega arith
 back_size Ahead = omega arith
 back_size (Refused why) = omega arith

@@ -24,7 +24,7 @@ use Rattle.pm_model.specs.declared.elements.Kind.{Kind}
 use Rattle.pm_model.specs.declared.elements.Kind.TheVariants.{User, Ua, Object, Oa}
 use Rattle.pm_model.specs.declared.requests.Command.{Command}
 use Rattle.pm_model.specs.declared.requests.Question.{Question}
-use Rattle.pm_model.specs.declared.requests.Command.TheVariants.{CreatePc, Create, Delete, Assign, Deassign, Associate, Dissociate, Prohibit, Lift, DefineRight, Oblige, Withdraw}
+use Rattle.pm_model.specs.declared.requests.Command.TheVariants.{CreatePc, Create, Delete, Assign, Deassign, Associate, Dissociate, Prohibit, Lift, DefineRight, Oblige, Withdraw, Keep, DropReview}
 use Rattle.pm_model.specs.declared.requests.Body.{Body}
 use Rattle.pm_model.specs.declared.requests.Body.TheVariants.{Version, OpenSession, CloseSession, StartProcess, EndProcess, Access, Admin, Review}
 use Rattle.pm_model.specs.declared.requests.Request.{Request}
@@ -191,6 +191,12 @@ module _ (look : List ℕ → Option Data) where
   oblige =
       after Has (form.name_at look key.Name) _ (λ name i. after Has (form.when_at look) _ (λ when j. after Has (form.do_at look) _ (λ response k. here Has (Oblige name when response) tt)))
 
+  keep : Gives Has (form.keep_of look)
+  keep = after Has (form.kind_at look) _ (λ kind i. after Has (form.name_at look key.Of) _ (λ name j. here Has (Keep (kind name)) tt))
+
+  drop_review : Gives Has (form.drop_review_of look)
+  drop_review = after Has (form.number_at look key.Review) _ (λ review i. here Has (DropReview review) tt)
+
   open_session : RowHas (form.open_session_of look)
   open_session = after BodyHas (form.name_at look key.User) _ (λ user i. here BodyHas (OpenSession user) tt)
 
@@ -225,8 +231,9 @@ module _ (look : List ℕ → Option Data) where
       (step w _ _ _ (admin _ assign) (step w _ _ _ (admin _ deassign) (step w _ _ _ (admin _ associate) (step w _ _ _ (admin _ dissociate)
       (step w _ _ _ (admin _ prohibit) (step w _ _ _ (admin _ (named Lift (λ name. tt))) (step w _ _ _ (admin _ (named DefineRight (λ name. tt)))
       (step w _ _ _ (admin _ oblige) (step w _ _ _ (admin _ (named Withdraw (λ name. tt)))
-      (step w _ _ _ access (step w _ _ _ (review _) (step w _ _ _ (review _)
-      (step w _ _ None (review _) (record { has = tt }))))))))))))))))))))))))
+      (step w _ _ _ (admin _ keep) (step w _ _ _ (admin _ drop_review)
+      (step w _ _ _ access (step w _ _ _ (review _) (step w _ _ _ (review _) (step w _ _ _ (review _) (step w _ _ _ (review _)
+      (step w _ _ None (review _) (record { has = tt }))))))))))))))))))))))))))))
 
   -- ---- the whole line
 

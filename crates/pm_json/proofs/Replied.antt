@@ -13,7 +13,8 @@ use Rattle.pm_model.specs.declared.lines.BadLine.TheVariants.{TooLong, NotJson, 
 use Rattle.pm_model.specs.declared.replies.Refusal.TheVariants as refusal
 use Rattle.pm_model.specs.declared.replies.Table.{Table}
 use Rattle.pm_model.specs.declared.replies.Table.TheVariants as table
-use Rattle.pm_model.specs.declared.replies.Reply.TheVariants.{Done, Granted, Bad, Ahead, Refused, KeepFault}
+use Rattle.pm_model.specs.declared.replies.Reply.TheVariants.{Done, Granted, Changes, Bad, Ahead, Refused, KeepFault}
+use Rattle.pm_model.specs.declared.reviews.Changed.{Changed}
 use Rattle.pm_model.specs.declared.replies.Shown as made
 use Rattle.pm_model.specs.declared.replies.Shown.TheVariants as shown
 use Rattle.pm_json.specs.Shown.{Shown, plain, denied, prohibited, response_refused, reviewed, surveyed}
@@ -31,9 +32,9 @@ beside (p ∷ ps) w = if bytes_eq w (word_text p.0) then Some p.1 else beside ps
 abbrev pub keys : List Key
 keys =
     key.Action ∷ key.After ∷ key.At ∷ key.Class ∷ key.Cmd ∷ key.Counts ∷ key.Do ∷ key.Element ∷ key.Exc
-    ∷ key.Field ∷ key.Fired ∷ key.From ∷ key.Id ∷ key.If ∷ key.Inc ∷ key.Into
-    ∷ key.List ∷ key.Mode ∷ key.Name ∷ key.No ∷ key.Obligation ∷ key.Ok ∷ key.On ∷ key.Proc
-    ∷ key.Process ∷ key.Prohibition ∷ key.Right ∷ key.Rights ∷ key.Session ∷ key.Subject ∷ key.Table
+    ∷ key.Field ∷ key.Fired ∷ key.From ∷ key.Id ∷ key.If ∷ key.Inc ∷ key.Into ∷ key.Kind
+    ∷ key.List ∷ key.Mode ∷ key.Name ∷ key.No ∷ key.Obligation ∷ key.Of ∷ key.Ok ∷ key.On ∷ key.Proc
+    ∷ key.Process ∷ key.Prohibition ∷ key.Review ∷ key.Right ∷ key.Rights ∷ key.Session ∷ key.Subject ∷ key.Table
     ∷ key.Target ∷ key.To ∷ key.Ua ∷ key.User ∷ key.Users ∷ key.V ∷ key.When ∷ key.Why ∷ []
 
 -- the first of the keys that is spelt so
@@ -45,11 +46,12 @@ abbrev pub table_words : List (Word × Table)
 table_words =
     (word.Elements, table.Elements) ∷ (word.Assignments, table.Assignments) ∷ (word.Associations, table.Associations)
     ∷ (word.Prohibitions, table.Prohibitions) ∷ (word.Obligations, table.Obligations) ∷ (word.Sessions, table.Sessions)
-    ∷ (word.Processes, table.Processes) ∷ (word.Rights, table.Rights) ∷ (word.History, table.History) ∷ []
+    ∷ (word.Processes, table.Processes) ∷ (word.Reviews, table.Reviews) ∷ (word.Rights, table.Rights)
+    ∷ (word.History, table.History) ∷ []
 
 abbrev pub refusal_words : List (Word × Word)
 refusal_words =
-    each_word (word.UnknownProcess ∷ word.UnknownSession ∷ word.UnknownName ∷ word.Denied ∷ word.BadKinds ∷ word.NameTaken
+    each_word (word.UnknownProcess ∷ word.UnknownSession ∷ word.UnknownReview ∷ word.UnknownName ∷ word.Denied ∷ word.BadKinds ∷ word.NameTaken
     ∷ word.Already ∷ word.Absent ∷ word.Cycle ∷ word.Occupied ∷ word.InUse ∷ word.LastContainer
     ∷ word.Builtin ∷ word.EmptyRange ∷ word.Full ∷ []) where
       -- each beside itself
@@ -57,11 +59,12 @@ refusal_words =
       each_word [] = []
       each_word (w ∷ ws) = (w, w) ∷ each_word ws
 
--- by the number of a process, or else of a session
-abbrev pub made_by : Option ℕ → Option ℕ → made.Shown
-made_by (Some n) _ = shown.Process n
-made_by None (Some n) = shown.Session n
-made_by None None = shown.Nothing
+-- by the number of a process, or else of a review, or else of a session
+abbrev pub made_by : Option ℕ → Option ℕ → Option ℕ → made.Shown
+made_by (Some n) _ _ = shown.Process n
+made_by None (Some n) _ = shown.Review n
+made_by None None (Some n) = shown.Session n
+made_by None None None = shown.Nothing
 
 -- for a class, or else for a prohibition
 abbrev pub denied_by : List ℕ → List ℕ → Option (List ℕ) → Option (List ℕ) → Option Shown
@@ -69,10 +72,15 @@ denied_by right target (Some pc) _ = Some (denied right target pc)
 denied_by right target None (Some prohibition) = Some (prohibited right target prohibition)
 denied_by right target None None = None
 
--- an item that is a name and a set of rights, and one that is a name and a number
+-- an item that is a name and a set of rights, one that is a name and two such sets, and one that is a name and a number
 abbrev pub pair_read : Data → Option (List ℕ × ℕ)
 pair_read (array (item (string name) (item (string rights) no_items))) = Some (name, digits_value 16 rights)
 pair_read _ = None
+
+abbrev pub change_read : Data → Option Changed
+change_read (array (item (string name) (item (string old) (item (string new) no_items)))) =
+    Some (record { name = name; old = digits_value 16 old; new = digits_value 16 new })
+change_read _ = None
 
 abbrev pub count_read : Data → Option (List ℕ × ℕ)
 count_read (array (item (string name) (item (number (unsigned n)) no_items))) = Some (name, n)
@@ -93,7 +101,7 @@ module _ (look : List ℕ → Option Data) where
   fired = unwrap_or (number_at key.Fired) 0
 
   abbrev pub done : Shown
-  done = plain (Done fired (made_by (number_at key.Process) (number_at key.Session)))
+  done = plain (Done fired (made_by (number_at key.Process) (number_at key.Review) (number_at key.Session)))
 
   abbrev pub bad_field : Option Shown
   bad_field = option_map (λ k. plain (Bad (BadField k))) (option_and_then (spelt keys) (text_at key.Field))
@@ -114,15 +122,19 @@ module _ (look : List ℕ → Option Data) where
       option_and_then (λ obligation. option_and_then (λ action. option_map (response_refused obligation action)
       (option_and_then (beside refusal_words) (text_at key.Why))) (number_at key.Action)) (name_at key.Obligation)
 
-  abbrev pub list_at : Key → (Data → Option (List ℕ × ℕ)) → Option (List (List ℕ × ℕ))
+  abbrev pub list_at : {A : Type 0} → Key → (Data → Option A) → Option (List A)
   list_at k form = option_and_then (list_of form) (option_and_then as_array (look (key_text k)))
+
+  abbrev pub changes : Option Shown
+  changes = option_and_then (λ at. option_map (λ list. plain (Changes at list)) (list_at key.List change_read)) (number_at key.At)
 
   abbrev pub ok_words : List (Word × Option Shown)
   ok_words =
       (word.Done, Some done) ∷ (word.Granted, Some (plain (Granted fired)))
       ∷ (word.Caps, option_map (reviewed word.Caps) (list_at key.List pair_read))
       ∷ (word.Entries, option_map (reviewed word.Entries) (list_at key.List pair_read))
-      ∷ (word.Survey, option_map surveyed (list_at key.Counts count_read)) ∷ []
+      ∷ (word.Survey, option_map surveyed (list_at key.Counts count_read))
+      ∷ (word.Kept, option_map (reviewed word.Kept) (list_at key.List pair_read)) ∷ (word.Changes, changes) ∷ []
 
   abbrev pub no_words : List (Word × Option Shown)
   no_words =
@@ -130,7 +142,8 @@ module _ (look : List ℕ → Option Data) where
       ∷ (word.NotRequest, Some (plain (Bad NotRequest))) ∷ (word.UnknownCommand, Some (plain (Bad UnknownCommand)))
       ∷ (word.BadField, bad_field) ∷ (word.Ahead, Some (plain Ahead))
       ∷ (word.UnknownProcess, Some (plain (Refused refusal.UnknownProcess)))
-      ∷ (word.UnknownSession, Some (plain (Refused refusal.UnknownSession))) ∷ (word.UnknownName, unknown_name)
+      ∷ (word.UnknownSession, Some (plain (Refused refusal.UnknownSession)))
+      ∷ (word.UnknownReview, Some (plain (Refused refusal.UnknownReview))) ∷ (word.UnknownName, unknown_name)
       ∷ (word.Denied, denial) ∷ (word.BadKinds, Some (plain (Refused refusal.BadKinds)))
       ∷ (word.NameTaken, Some (plain (Refused refusal.NameTaken))) ∷ (word.Already, Some (plain (Refused refusal.Already)))
       ∷ (word.Absent, Some (plain (Refused refusal.Absent))) ∷ (word.Cycle, Some (plain (Refused refusal.Cycle)))

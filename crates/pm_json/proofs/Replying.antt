@@ -10,7 +10,7 @@ use Rattle.serde_json.specs.Written.{compact_text}
 use Rattle.pm_model.specs.Forms.{looking, whole_form}
 use Rattle.pm_model.specs.Name.{is_name, is_name_byte}
 use Rattle.pm_model.specs.Object.{present, whole, whole_if, texted}
-use Rattle.pm_model.specs.Text.{text, front, back, fired_if, no_front, pair_told, count_told, refusal_word, rights_text, said, table_word, with_version}
+use Rattle.pm_model.specs.Text.{text, front, back, fired_if, no_front, pair_told, count_told, change_told, refusal_word, rights_text, said, table_word, with_version}
 use Rattle.pm_model.specs.Forms.{list_of}
 use Rattle.pm_model.specs.Object.{items_of, listed}
 use Rattle.pm_model.specs.Words.{key_text, word_text}
@@ -24,13 +24,14 @@ use Rattle.pm_model.specs.declared.replies.Refusal.{Refusal}
 use Rattle.pm_model.specs.declared.replies.Refusal.TheVariants as refusal
 use Rattle.pm_model.specs.declared.replies.Table.TheVariants as table
 use Rattle.pm_model.specs.declared.replies.Reply.{Reply}
-use Rattle.pm_model.specs.declared.replies.Reply.TheVariants.{Done, Granted, Caps, Entries, Survey, Bad, Ahead, Refused, ResponseRefused, KeepFault}
+use Rattle.pm_model.specs.declared.replies.Reply.TheVariants.{Done, Granted, Caps, Entries, Survey, Kept, Changes, Bad, Ahead, Refused, ResponseRefused, KeepFault}
+use Rattle.pm_model.specs.declared.reviews.Changed.{Changed}
 use Rattle.pm_model.specs.declared.reviews.Pair.{Pair}
 use Rattle.pm_model.specs.declared.replies.Reason.{Reason}
 use Rattle.pm_model.specs.declared.replies.Reason.TheVariants.{Class, Prohibition}
 use Rattle.pm_model.specs.declared.replies.Shown as made
 use Rattle.pm_model.specs.declared.replies.Shown.TheVariants as shows
-use Rattle.pm_json.specs.Printable.{names_in, names_in_refusal, names_in_reason, names_of_pairs, numbers_in, numbers_in_shown, rights_of_pairs, ShowsNames, ShowsNumbers, IsPrintable}
+use Rattle.pm_json.specs.Printable.{names_in, names_in_refusal, names_in_reason, names_of_changes, names_of_pairs, numbers_in, numbers_in_shown, rights_of_changes, rights_of_pairs, ShowsNames, ShowsNumbers, IsPrintable}
 use Rattle.pm_json.specs.Shown.{Shown, shown, shown_pairs, shown_counts}
 use Rattle.pm_json.proofs.Fair.{ItemsFair, read-compact}
 use Rattle.pm_json.proofs.Hex.{hex_plain, hex_told}
@@ -57,6 +58,7 @@ refusal_told : (why : Refusal) → replied.beside replied.refusal_words (word_te
 unfolding word_text
 refusal_told refusal.UnknownProcess = refl
 refusal_told refusal.UnknownSession = refl
+refusal_told refusal.UnknownReview = refl
 refusal_told (refusal.UnknownName name) = refl
 refusal_told (refusal.Denied right target reason) = refl
 refusal_told refusal.BadKinds = refl
@@ -89,16 +91,19 @@ spelt_key key.Id = refl
 spelt_key key.If = refl
 spelt_key key.Inc = refl
 spelt_key key.Into = refl
+spelt_key key.Kind = refl
 spelt_key key.List = refl
 spelt_key key.Mode = refl
 spelt_key key.Name = refl
 spelt_key key.No = refl
 spelt_key key.Obligation = refl
+spelt_key key.Of = refl
 spelt_key key.Ok = refl
 spelt_key key.On = refl
 spelt_key key.Proc = refl
 spelt_key key.Process = refl
 spelt_key key.Prohibition = refl
+spelt_key key.Review = refl
 spelt_key key.Right = refl
 spelt_key key.Rights = refl
 spelt_key key.Session = refl
@@ -145,6 +150,7 @@ module _ (id : Option ℕ) (v : ℕ) (names : ℕ → List ℕ) where
   unfolding key_text word_text
   told_refused refusal.UnknownProcess h = rw (or_none (whole_if id), number_told id) refl
   told_refused refusal.UnknownSession h = rw (or_none (whole_if id), number_told id) refl
+  told_refused refusal.UnknownReview h = rw (or_none (whole_if id), number_told id) refl
   told_refused refusal.BadKinds h = rw (or_none (whole_if id), number_told id) refl
   told_refused refusal.NameTaken h = rw (or_none (whole_if id), number_told id) refl
   told_refused refusal.Already h = rw (or_none (whole_if id), number_told id) refl
@@ -164,6 +170,7 @@ module _ (id : Option ℕ) (v : ℕ) (names : ℕ → List ℕ) where
   told_refused (refusal.Full table.Obligations) h = rw (or_none (whole_if id), number_told id) refl
   told_refused (refusal.Full table.Sessions) h = rw (or_none (whole_if id), number_told id) refl
   told_refused (refusal.Full table.Processes) h = rw (or_none (whole_if id), number_told id) refl
+  told_refused (refusal.Full table.Reviews) h = rw (or_none (whole_if id), number_told id) refl
   told_refused (refusal.Full table.Rights) h = rw (or_none (whole_if id), number_told id) refl
   told_refused (refusal.Full table.History) h = rw (or_none (whole_if id), number_told id) refl
 
@@ -172,6 +179,7 @@ module _ (id : Option ℕ) (v : ℕ) (names : ℕ → List ℕ) where
   told_done fired shows.Nothing = rw (or_none (whole_if id), number_told id, or_none (whole_if (fired_if fired)), number_told (fired_if fired), fired_told fired) refl
   told_done fired (shows.Session n) = rw (or_none (whole_if id), number_told id, or_none (whole_if (fired_if fired)), number_told (fired_if fired), fired_told fired) refl
   told_done fired (shows.Process n) = rw (or_none (whole_if id), number_told id, or_none (whole_if (fired_if fired)), number_told (fired_if fired), fired_told fired) refl
+  told_done fired (shows.Review n) = rw (or_none (whole_if id), number_told id, or_none (whole_if (fired_if fired)), number_told (fired_if fired), fired_told fired) refl
 
   told_response : (obligation : List ℕ) (action : ℕ) (why : Refusal) → IsTrue (is_name obligation) → Told id v names (ResponseRefused obligation action why)
   unfolding key_text word_text
@@ -186,12 +194,22 @@ module _ (id : Option ℕ) (v : ℕ) (names : ℕ → List ℕ) where
   told_counts [] = refl
   told_counts (c ∷ cs) = let rest = told_counts cs in rw rest refl
 
+  told_changes : (list : List Changed) → ShowsNumbers (rights_of_changes list) → list_of replied.change_read (items_of (map change_told list)) ≡ Some list
+  told_changes [] m = refl
+  told_changes (c ∷ cs) m =
+      let was = hex_told c.old m.0 in
+      let is = hex_told c.new m.1.0 in
+      let rest = told_changes cs m.1.1 in
+      rw (was, is, rest) refl
+
   told : (reply : Reply) → ShowsNumbers (numbers_in reply) → ShowsNames (names_in names reply) → Told id v names reply
   unfolding key_text word_text
   told (Done fired what) m h = told_done fired what
   told (Caps list) m h = let t = told_pairs list m in rw (or_none (whole_if id), number_told id, t) refl
   told (Entries list) m h = let t = told_pairs list m in rw (or_none (whole_if id), number_told id, t) refl
   told (Survey users counts) m h = let t = told_counts (zip users counts) in rw (or_none (whole_if id), number_told id, t) refl
+  told (Kept list) m h = let t = told_pairs list m in rw (or_none (whole_if id), number_told id, t) refl
+  told (Changes at list) m h = let t = told_changes list m.1 in rw (or_none (whole_if id), number_told id, t) refl
   told (Granted fired) m h = rw (or_none (whole_if id), number_told id, or_none (whole_if (fired_if fired)), number_told (fired_if fired), fired_told fired) refl
   told (Bad bad) m h = told_bad bad
   told Ahead m h = rw (or_none (whole_if id), number_told id) refl
@@ -231,6 +249,19 @@ fair-pairs names (p ∷ ps) h = (
   fair-pairs names ps h.1,
 )
 
+fair-changes : (list : List Changed) → ShowsNames (names_of_changes list) → ItemsFair (items_of (map change_told list))
+fair-changes [] h = tt
+fair-changes (c ∷ cs) h = (
+  (
+    IsUtf8-are_ascii c.name (ascii_plain c.name (plain-name c.name h.0)),
+    (
+      IsUtf8-are_ascii (rights_text c.old) (ascii_plain (rights_text c.old) (hex_plain c.old)),
+      (IsUtf8-are_ascii (rights_text c.new) (ascii_plain (rights_text c.new) (hex_plain c.new)), tt),
+    ),
+  ),
+  fair-changes cs h.1,
+)
+
 fair-counts : (names : ℕ → List ℕ) (users counts : List ℕ) → ShowsNames (map names users) → ShowsNumbers counts →
     ItemsFair (items_of (map (count_told names) (zip users counts)))
 fair-counts names [] counts h m = tt
@@ -242,12 +273,19 @@ pairs_shallow : (names : ℕ → List ℕ) (list : List Pair) → items_depth (i
 pairs_shallow names [] = omega arith
 pairs_shallow names (p ∷ ps) = let rest = pairs_shallow names ps in omega (arith, rest)
 
+changes_shallow : (list : List Changed) → items_depth (items_of (map change_told list)) ≤ 1
+changes_shallow [] = omega arith
+changes_shallow (c ∷ cs) = let rest = changes_shallow cs in omega (arith, rest)
+
 counts_shallow : (names : ℕ → List ℕ) (counts : List (ℕ × ℕ)) → items_depth (items_of (map (count_told names) counts)) ≤ 1
 counts_shallow names [] = omega arith
 counts_shallow names (c ∷ cs) = let rest = counts_shallow names cs in omega (arith, rest)
 
 pairs-fair : (names : ℕ → List ℕ) (list : List Pair) → ShowsNames (names_of_pairs names list) → ValueFair (Some (listed (map (pair_told names) list)))
 pairs-fair names list h = let shallow = pairs_shallow names list in (fair-pairs names list h, omega (arith, shallow))
+
+changes-fair : (list : List Changed) → ShowsNames (names_of_changes list) → ValueFair (Some (listed (map change_told list)))
+changes-fair list h = let shallow = changes_shallow list in (fair-changes list h, omega (arith, shallow))
 
 counts-fair : (names : ℕ → List ℕ) (users counts : List ℕ) → ShowsNames (map names users) → ShowsNumbers counts →
     ValueFair (Some (listed (map (count_told names) (zip users counts))))
@@ -269,6 +307,7 @@ module _ (id : Option ℕ) (v : ℕ) (names : ℕ → List ℕ) where
   unfolding key_text
   ordered_refused refusal.UnknownProcess = refl
   ordered_refused refusal.UnknownSession = refl
+  ordered_refused refusal.UnknownReview = refl
   ordered_refused refusal.BadKinds = refl
   ordered_refused refusal.NameTaken = refl
   ordered_refused refusal.Already = refl
@@ -290,6 +329,8 @@ module _ (id : Option ℕ) (v : ℕ) (names : ℕ → List ℕ) where
   ordered (Caps list) = refl
   ordered (Entries list) = refl
   ordered (Survey users counts) = refl
+  ordered (Kept list) = refl
+  ordered (Changes at list) = refl
   ordered (Bad bad) = ordered_bad bad
   ordered Ahead = refl
   ordered (Refused why) = ordered_refused why
@@ -324,6 +365,7 @@ module _ (id : Option ℕ) (v : ℕ) (names : ℕ → List ℕ) (i : IfSome id (
   fair_refused : (why : Refusal) → ShowsNames (names_in_refusal names why) → ValuesFair (members id v names (Refused why))
   fair_refused refusal.UnknownProcess h = fair_no word.UnknownProcess
   fair_refused refusal.UnknownSession h = fair_no word.UnknownSession
+  fair_refused refusal.UnknownReview h = fair_no word.UnknownReview
   fair_refused refusal.BadKinds h = fair_no word.BadKinds
   fair_refused refusal.NameTaken h = fair_no word.NameTaken
   fair_refused refusal.Already h = fair_no word.Already
@@ -339,9 +381,10 @@ module _ (id : Option ℕ) (v : ℕ) (names : ℕ → List ℕ) (i : IfSome id (
   fair_refused (refusal.Full t) h = (fair-number id i, (fair-said word.Full, (fair-said (table_word t), (fair_version, tt))))
 
   fair_done : (fired : ℕ) (what : made.Shown) → ShowsNumbers (fired ∷ numbers_in_shown what) → ValuesFair (members id v names (Done fired what))
-  fair_done fired shows.Nothing m = (fair-fired fired m.0, (fair-number id i, (fair-said word.Done, (tt, (tt, (fair_version, tt))))))
-  fair_done fired (shows.Session n) m = (fair-fired fired m.0, (fair-number id i, (fair-said word.Done, (tt, (fair-number (Some n) m.1.0, (fair_version, tt))))))
-  fair_done fired (shows.Process n) m = (fair-fired fired m.0, (fair-number id i, (fair-said word.Done, (fair-number (Some n) m.1.0, (tt, (fair_version, tt))))))
+  fair_done fired shows.Nothing m = (fair-fired fired m.0, (fair-number id i, (fair-said word.Done, (tt, (tt, (tt, (fair_version, tt)))))))
+  fair_done fired (shows.Session n) m = (fair-fired fired m.0, (fair-number id i, (fair-said word.Done, (tt, (tt, (fair-number (Some n) m.1.0, (fair_version, tt)))))))
+  fair_done fired (shows.Process n) m = (fair-fired fired m.0, (fair-number id i, (fair-said word.Done, (fair-number (Some n) m.1.0, (tt, (tt, (fair_version, tt)))))))
+  fair_done fired (shows.Review n) m = (fair-fired fired m.0, (fair-number id i, (fair-said word.Done, (tt, (fair-number (Some n) m.1.0, (tt, (fair_version, tt)))))))
 
   fair : (reply : Reply) → ShowsNumbers (numbers_in reply) → ShowsNames (names_in names reply) → ValuesFair (members id v names reply)
   fair (Done fired what) m h = fair_done fired what m
@@ -349,6 +392,8 @@ module _ (id : Option ℕ) (v : ℕ) (names : ℕ → List ℕ) (i : IfSome id (
   fair (Caps list) m h = (fair-number id i, (pairs-fair names list h, (fair-said word.Caps, (fair_version, tt))))
   fair (Entries list) m h = (fair-number id i, (pairs-fair names list h, (fair-said word.Entries, (fair_version, tt))))
   fair (Survey users counts) m h = (counts-fair names users counts h m, (fair-number id i, (fair-said word.Survey, (fair_version, tt))))
+  fair (Kept list) m h = (fair-number id i, (pairs-fair names list h, (fair-said word.Kept, (fair_version, tt))))
+  fair (Changes at list) m h = (fair-number (Some at) m.0, (fair-number id i, (changes-fair list h, (fair-said word.Changes, (fair_version, tt)))))
   fair (Bad bad) m h = fair_bad bad
   fair Ahead m h = fair_no word.Ahead
   fair (Refused why) m h = fair_refused why h

@@ -28,7 +28,8 @@ word-taken look w =
     (step w _ _ _ refl (step w _ _ _ refl (step w _ _ _ refl (step w _ _ _ refl (step w _ _ _ refl (step w _ _ _ refl
     (step w _ _ _ refl (step w _ _ _ refl (step w _ _ _ refl (step w _ _ _ refl (step w _ _ _ refl (step w _ _ _ refl
     (step w _ _ _ refl (step w _ _ _ refl (step w _ _ _ refl (step w _ _ _ refl (step w _ _ _ refl (step w _ _ _ refl
-    (λ none. absurd (cc)))))))))))))))))))))))))
+    (step w _ _ _ refl (step w _ _ _ refl (step w _ _ _ refl (step w _ _ _ refl
+    (λ none. absurd (cc)))))))))))))))))))))))))))))
 
 -- so a right of that name is refused
 or-true : (a b : Bool) → b ≡ true → (a || b) ≡ true

@@ -3,7 +3,7 @@ use Rattle.std.specs.Prelude.{◌≡◌, ◌≤◌, ◌+◌, ◌*◌, ℕ, List,
 use Rattle.std.specs.List.{zip}
 use Rattle.std.specs.declared.alloc.Global.{Global}
 use Rattle.pm_model.specs.declared.replies.Reply.{Reply}
-use Rattle.pm_model.specs.declared.replies.Reply.TheVariants.{Caps, Entries, Survey}
+use Rattle.pm_model.specs.declared.replies.Reply.TheVariants.{Caps, Entries, Survey, Kept, Changes}
 
 -- on Ok the text was appended, which has at most so many bytes, else what stood stays at the front; where there was room
 -- for so many, it is Ok
@@ -26,21 +26,32 @@ text_most = 134
 abbrev pub front_most : ℕ
 front_most = 5 * text_most + number_most
 
--- how many items the list of a review has
+-- how many items the list of a reply has
 abbrev pub items_in : Reply → ℕ
 items_in (Caps list) = length list
 items_in (Entries list) = length list
 items_in (Survey users counts) = length (zip users counts)
+items_in (Kept list) = length list
+items_in (Changes at list) = length list
 items_in _ = 0
 
--- how many bytes an item has at most, with its comma
-abbrev pub item_most : ℕ
-item_most = 90
+-- how many bytes an item may have that is a name and a set of rights, or a name and a number, with its comma
+abbrev pub pair_most : ℕ
+pair_most = 90
+
+-- the same of one that is a name and two sets of rights
+abbrev pub change_most : ℕ
+change_most = 107
+
+-- how many bytes an item of the reply's list has at most
+abbrev pub item_most : Reply → ℕ
+item_most (Changes at list) = change_most
+item_most _ = pair_most
 
 -- how many bytes the members before the version have at most
 abbrev pub front_most_of : Reply → ℕ
-front_most_of reply = front_most + item_most * items_in reply
+front_most_of reply = front_most + item_most reply * items_in reply
 
--- how many bytes the line of a reply has at most, with its line feed: 1,024, but for a review's
+-- how many bytes the line of a reply has at most, with its line feed: 1,024, but where it has a list
 abbrev pub reply_most : Reply → ℕ
-reply_most reply = 1024 + item_most * items_in reply
+reply_most reply = 1024 + item_most reply * items_in reply

@@ -7,7 +7,8 @@ use Rattle.pm_model.specs.declared.replies.Reason.TheVariants.{Class, Prohibitio
 use Rattle.pm_model.specs.declared.replies.Refusal.{Refusal}
 use Rattle.pm_model.specs.declared.replies.Refusal.TheVariants.{UnknownName, Denied}
 use Rattle.pm_model.specs.declared.replies.Reply.{Reply}
-use Rattle.pm_model.specs.declared.replies.Reply.TheVariants.{Done, Granted, Caps, Entries, Survey, Refused, ResponseRefused}
+use Rattle.pm_model.specs.declared.replies.Reply.TheVariants.{Done, Granted, Caps, Entries, Survey, Kept, Changes, Refused, ResponseRefused}
+use Rattle.pm_model.specs.declared.reviews.Changed.{Changed}
 use Rattle.pm_model.specs.declared.reviews.Pair.{Pair}
 use Rattle.pm_model.specs.declared.replies.Shown as made
 use Rattle.pm_model.specs.declared.replies.Shown.TheVariants as shown
@@ -24,11 +25,16 @@ names_in_refusal names _ = []
 abbrev pub names_of_pairs : (ℕ → List ℕ) → List Pair → List (List ℕ)
 names_of_pairs names list = map (λ (p : Pair). names p.element) list
 
+abbrev pub names_of_changes : List Changed → List (List ℕ)
+names_of_changes list = map (λ (c : Changed). c.name) list
+
 -- the names that the reply shows, where elements have these
 abbrev pub names_in : (ℕ → List ℕ) → Reply → List (List ℕ)
 names_in names (Caps list) = names_of_pairs names list
 names_in names (Entries list) = names_of_pairs names list
 names_in names (Survey users counts) = map names users
+names_in names (Kept list) = names_of_pairs names list
+names_in names (Changes at list) = names_of_changes list
 names_in names (Refused why) = names_in_refusal names why
 names_in names (ResponseRefused obligation action why) = obligation ∷ []
 names_in names _ = []
@@ -37,10 +43,15 @@ abbrev pub numbers_in_shown : made.Shown → List ℕ
 numbers_in_shown shown.Nothing = []
 numbers_in_shown (shown.Session n) = n ∷ []
 numbers_in_shown (shown.Process n) = n ∷ []
+numbers_in_shown (shown.Review n) = n ∷ []
 
 -- sets of rights are shown as numbers too
 abbrev pub rights_of_pairs : List Pair → List ℕ
 rights_of_pairs list = map (λ (p : Pair). p.rights) list
+
+abbrev pub rights_of_changes : List Changed → List ℕ
+rights_of_changes [] = []
+rights_of_changes (c ∷ cs) = c.old ∷ c.new ∷ rights_of_changes cs
 
 -- the numbers that the reply shows beside the id and the version
 abbrev pub numbers_in : Reply → List ℕ
@@ -49,6 +60,8 @@ numbers_in (Granted fired) = fired ∷ []
 numbers_in (Caps list) = rights_of_pairs list
 numbers_in (Entries list) = rights_of_pairs list
 numbers_in (Survey users counts) = counts
+numbers_in (Kept list) = rights_of_pairs list
+numbers_in (Changes at list) = at ∷ rights_of_changes list
 numbers_in (ResponseRefused obligation action why) = action ∷ []
 numbers_in _ = []
 

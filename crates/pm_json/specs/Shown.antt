@@ -7,7 +7,7 @@ use Rattle.pm_model.specs.declared.replies.Reason.TheVariants.{Class, Prohibitio
 use Rattle.pm_model.specs.declared.replies.Refusal.{Refusal}
 use Rattle.pm_model.specs.declared.replies.Refusal.TheVariants.{Denied}
 use Rattle.pm_model.specs.declared.replies.Reply.{Reply}
-use Rattle.pm_model.specs.declared.replies.Reply.TheVariants.{Caps, Entries, Survey, Refused, ResponseRefused}
+use Rattle.pm_model.specs.declared.replies.Reply.TheVariants.{Caps, Entries, Survey, Kept, Refused, ResponseRefused}
 use Rattle.pm_model.specs.declared.reviews.Pair.{Pair}
 use Rattle.pm_model.specs.Text.{refusal_word}
 use Rattle.pm_model.specs.declared.words.Word.{Word}
@@ -43,6 +43,7 @@ abbrev pub shown : (ℕ → List ℕ) → Reply → Shown
 shown names (Caps list) = reviewed word.Caps (shown_pairs names list)
 shown names (Entries list) = reviewed word.Entries (shown_pairs names list)
 shown names (Survey users counts) = surveyed (shown_counts names (zip users counts))
+shown names (Kept list) = reviewed word.Kept (shown_pairs names list)
 shown names (Refused why) = shown_refusal names why
 shown names (ResponseRefused obligation action why) = response_refused obligation action (refusal_word why)
 shown names reply = plain reply

@@ -16,8 +16,8 @@ ghost use Rattle.pm_json.specs.Lists.{AsksFor, HasLists, listed};
 ghost use Rattle.pm_json.specs.Printable.{IsPrintable};
 ghost use Rattle.pm_json.specs.Shown.{shown};
 
-/// The line of a reply has at most 1,024 bytes with its line feed, and that of a review at most 90 more for each item of its
-/// list.
+/// The line of a reply has at most 1,024 bytes with its line feed, and one with a list at most 90 more for each of its items,
+/// or 107 more where the list tells what has changed.
 pub fn reply_is_short()
     ensures { (id : Option ℕ) (version : ℕ) (names : ℕ → List ℕ) (reply : Reply)
         → IsPrintable id version names reply → length (text id version names reply) ≤ reply_most reply }

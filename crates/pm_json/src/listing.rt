@@ -8,13 +8,13 @@ ghost use Rattle.serde_json.specs.Written.{comma_if, compact_text};
 ghost use Rattle.pm_model.specs.Object.{listed};
 ghost use Rattle.pm_model.specs.Formed.{Each};
 ghost use Rattle.pm_model.specs.Nameable.{ArePairsNameable};
-ghost use Rattle.pm_model.specs.Text.{rights_text, pair_told, count_told};
-ghost use Rattle.pm_json.specs.Growth.{Appended, item_most};
+ghost use Rattle.pm_model.specs.Text.{change_told, count_told, pair_told, rights_text};
+ghost use Rattle.pm_json.specs.Growth.{Appended, change_most, pair_most};
 ghost use Rattle.pm_model.specs.Words.{key_text};
 ghost use Rattle.pm_json.specs.Members.{item_text, items_front, trailing};
 
 use crate::put::{put, put_decimal, put_key, put_quoted};
-use pm_model::{ElementId, Key, Memory, Name, NameOf, Pair, Rights};
+use pm_model::{Changed, ElementId, Key, Memory, Name, NameOf, Pair, Rights};
 
 // A digit of 16.
 fn hex_digit(digit: u64) -> u8
@@ -70,16 +70,34 @@ fn put_start(out: &mut Vec<u8>, later: bool, name: &Name) -> Result<(), Memory>
 
 // Appends the item of a name and a set of rights.
 fn put_pair(out: &mut Vec<u8>, later: bool, name: &Name, rights: Rights) -> Result<(), Memory>
-    ensures { Appended out.old out.new (item_text later (listed (string name.now ∷ string (rights_text rights) ∷ []))) item_most result }
+    ensures { Appended out.old out.new (item_text later (listed (string name.now ∷ string (rights_text rights) ∷ []))) pair_most result }
 {
     put_start(out, later, name)?;
     put_rights(out, rights.0)?;
     put(out, b"]")
 }
 
+// Appends two sets of rights with a comma between them.
+fn put_both(out: &mut Vec<u8>, old: u64, new: u64) -> Result<(), Memory>
+    ensures { Appended out.old out.new (quoted (rights_text old) ++ 44 ∷ quoted (rights_text new)) 37 result }
+{
+    put_rights(out, old)?;
+    put(out, b",")?;
+    put_rights(out, new)
+}
+
+// Appends the item of a name and two sets of rights.
+fn put_change(out: &mut Vec<u8>, later: bool, change: &Changed) -> Result<(), Memory>
+    ensures { Appended out.old out.new (item_text later (change_told change.now)) change_most result }
+{
+    put_start(out, later, &change.name)?;
+    put_both(out, change.old.0, change.new.0)?;
+    put(out, b"]")
+}
+
 // Appends the item of a name and a number.
 fn put_count(out: &mut Vec<u8>, later: bool, name: &Name, count: u64) -> Result<(), Memory>
-    ensures { Appended out.old out.new (item_text later (listed (string name.now ∷ number (unsigned count) ∷ []))) item_most result }
+    ensures { Appended out.old out.new (item_text later (listed (string name.now ∷ number (unsigned count) ∷ []))) pair_most result }
 {
     put_start(out, later, name)?;
     put_decimal(out, count)?;
@@ -93,7 +111,7 @@ pub(crate) fn put_pairs<N: NameOf>(
     pairs: &[Pair],
 ) -> Result<(), Memory>
     requires { ArePairsNameable (N.named names.now) pairs.now }
-    ensures { Appended out.old out.new (items_front false (map (pair_told (N.name_at names.now)) pairs.now)) (item_most * length pairs.now) result }
+    ensures { Appended out.old out.new (items_front false (map (pair_told (N.name_at names.now)) pairs.now)) (pair_most * length pairs.now) result }
 {
     for (i, pair) in pairs.iter().enumerate() {
         let name = names.name_of(pair.element);
@@ -110,11 +128,21 @@ pub(crate) fn put_counts<N: NameOf>(
     counts: &[u64],
 ) -> Result<(), Memory>
     requires { Each (λ u. IsTrue (N.named names.now u)) users.now }
-    ensures { Appended out.old out.new (items_front false (map (count_told (N.name_at names.now)) (zip users.now counts.now))) (item_most * length (zip users.now counts.now)) result }
+    ensures { Appended out.old out.new (items_front false (map (count_told (N.name_at names.now)) (zip users.now counts.now))) (pair_most * length (zip users.now counts.now)) result }
 {
     for i in 0..users.len().min(counts.len()) {
         let name = names.name_of(users[i]);
         put_count(out, i > 0, &name, counts[i])?;
+    }
+    Ok(())
+}
+
+/// Appends the items of a list of what has changed.
+pub(crate) fn put_changes(out: &mut Vec<u8>, changes: &[Changed]) -> Result<(), Memory>
+    ensures { Appended out.old out.new (items_front false (map change_told changes.now)) (change_most * length changes.now) result }
+{
+    for (i, change) in changes.iter().enumerate() {
+        put_change(out, i > 0, change)?;
     }
     Ok(())
 }
@@ -126,11 +154,21 @@ pub(crate) fn put_list<N: NameOf>(
     pairs: &[Pair],
 ) -> Result<(), Memory>
     requires { ArePairsNameable (N.named names.now) pairs.now }
-    ensures { Appended out.old out.new (trailing (key_text Key.List) (Some (listed (map (pair_told (N.name_at names.now)) pairs.now)))) (70 + item_most * length pairs.now) result }
+    ensures { Appended out.old out.new (trailing (key_text Key.List) (Some (listed (map (pair_told (N.name_at names.now)) pairs.now)))) (70 + pair_most * length pairs.now) result }
 {
     put_key(out, Key::List)?;
     put(out, b"[")?;
     put_pairs(out, names, pairs)?;
+    put(out, b"],")
+}
+
+/// Appends the member of a list of what has changed, and a comma.
+pub(crate) fn put_changed(out: &mut Vec<u8>, changes: &[Changed]) -> Result<(), Memory>
+    ensures { Appended out.old out.new (trailing (key_text Key.List) (Some (listed (map change_told changes.now)))) (70 + change_most * length changes.now) result }
+{
+    put_key(out, Key::List)?;
+    put(out, b"[")?;
+    put_changes(out, changes)?;
     put(out, b"],")
 }
 
@@ -142,7 +180,7 @@ pub(crate) fn put_survey<N: NameOf>(
     counts: &[u64],
 ) -> Result<(), Memory>
     requires { Each (λ u. IsTrue (N.named names.now u)) users.now }
-    ensures { Appended out.old out.new (trailing (key_text Key.Counts) (Some (listed (map (count_told (N.name_at names.now)) (zip users.now counts.now))))) (70 + item_most * length (zip users.now counts.now)) result }
+    ensures { Appended out.old out.new (trailing (key_text Key.Counts) (Some (listed (map (count_told (N.name_at names.now)) (zip users.now counts.now))))) (70 + pair_most * length (zip users.now counts.now)) result }
 {
     put_key(out, Key::Counts)?;
     put(out, b"[")?;

@@ -3,33 +3,39 @@ ghost use Rattle.std.specs.Prelude.{◌≡◌, ◌++◌, ◌∷◌, [], ◌<◌,
 ghost use Rattle.std.specs.List.{zip};
 ghost use Rattle.pm_model.specs.Formed.{Each};
 ghost use Rattle.pm_model.specs.Nameable.{ArePairsNameable, IsNameable};
-ghost use Rattle.pm_model.specs.Text.{text, bad_text, front, back, bad_front, done_front, fired_if, granted_front, list_front, made_front, process_shown, session_shown, response_front, survey_front};
+ghost use Rattle.pm_model.specs.Text.{text, bad_text, front, back, bad_front, changes_front, done_front, fired_if, granted_front, list_front, made_front, process_shown, response_front, review_shown, session_shown, survey_front};
 ghost use Rattle.pm_model.specs.Words.{key_text};
-ghost use Rattle.pm_json.specs.Growth.{Appended, front_most, front_most_of, item_most, items_in, number_most, reply_most, text_most};
+ghost use Rattle.pm_json.specs.Growth.{Appended, change_most, front_most, front_most_of, item_most, items_in, number_most, pair_most, reply_most, text_most};
 ghost use Rattle.pm_json.specs.Members.{keyed, trailing_all, leading_all};
 ghost use Rattle.pm_model.specs.declared.replies.Refusal.{Refusal};
 
-use crate::listing::{put_list, put_survey};
+use crate::listing::{put_changed, put_list, put_survey};
 use crate::put::{
     put, put_decimal, put_key, put_key_text, put_name, put_number, put_number_if, put_word,
     put_word_behind,
 };
 use crate::refusals::{put_no, put_refusal, refusal_word};
-use pm_model::{BadLine, ElementId, Head, Key, Memory, Name, NameOf, Pair, Reply, Shown, Word};
+use pm_model::{
+    BadLine, Changed, ElementId, Head, Key, Memory, Name, NameOf, Pair, Reply, Shown, Word,
+};
 
-/// How many bytes the line of a reply has at most, with its line feed, but for a review's.
+/// How many bytes the line of a reply has at most, with its line feed, but where it has a list.
 pub const LONGEST_REPLY: usize = 1024;
 
-// How many bytes an item of a review's list adds at most.
-const LONGEST_ITEM: usize = 90;
+// How many bytes a name and a set of rights, or a name and a number, add to a list at most.
+const LONGEST_PAIR: usize = 90;
 
-// How many items the list of a review has.
+// How many bytes a name and two sets of rights add to a list at most.
+const LONGEST_CHANGE: usize = 107;
+
+// How many items the list of a reply has.
 fn items_in(reply: &Reply) -> usize
     ensures { result ≡ items_in reply.now }
 {
     match reply {
-        Reply::Caps { list } | Reply::Entries { list } => list.len(),
+        Reply::Caps { list } | Reply::Entries { list } | Reply::Kept { list } => list.len(),
         Reply::Survey { users, counts } => users.len().min(counts.len()),
+        Reply::Changes { list, .. } => list.len(),
         Reply::Done { .. }
         | Reply::Granted { .. }
         | Reply::Bad(_)
@@ -40,6 +46,16 @@ fn items_in(reply: &Reply) -> usize
     }
 }
 
+// How many bytes an item of the reply's list adds at most.
+fn longest_item(reply: &Reply) -> usize
+    ensures { result ≡ item_most reply.now }
+{
+    match reply {
+        Reply::Changes { .. } => LONGEST_CHANGE,
+        _ => LONGEST_PAIR,
+    }
+}
+
 /// How many bytes the line of the reply has at most, with its line feed: with room for so many `print_reply` is Ok. Where
 /// that is more than a `usize` can tell, the largest one.
 pub fn longest(reply: &Reply) -> usize
@@ -47,7 +63,7 @@ pub fn longest(reply: &Reply) -> usize
     ensures enough { result < 2 ^ 64 - 1 → result ≡ reply_most reply.now }
 {
     items_in(reply)
-        .saturating_mul(LONGEST_ITEM)
+        .saturating_mul(longest_item(reply))
         .saturating_add(LONGEST_REPLY)
 }
 
@@ -56,7 +72,7 @@ fn process_shown(shown: Shown) -> Option<u64>
 {
     match shown {
         Shown::Process(n) => Some(u64::from(n)),
-        Shown::Nothing | Shown::Session(_) => None,
+        Shown::Nothing | Shown::Session(_) | Shown::Review(_) => None,
     }
 }
 
@@ -65,15 +81,25 @@ fn session_shown(shown: Shown) -> Option<u64>
 {
     match shown {
         Shown::Session(n) => Some(u64::from(n)),
-        Shown::Nothing | Shown::Process(_) => None,
+        Shown::Nothing | Shown::Process(_) | Shown::Review(_) => None,
+    }
+}
+
+fn review_shown(shown: Shown) -> Option<u64>
+    ensures { result ≡ review_shown shown }
+{
+    match shown {
+        Shown::Review(n) => Some(u64::from(n)),
+        Shown::Nothing | Shown::Session(_) | Shown::Process(_) => None,
     }
 }
 
 // What a request that is accepted has made.
 fn put_made(out: &mut Vec<u8>, shown: Shown) -> Result<(), Memory>
-    ensures { Appended out.old out.new (trailing_all (made_front shown)) (number_most + number_most) result }
+    ensures { Appended out.old out.new (trailing_all (made_front shown)) (3 * number_most) result }
 {
     put_number_if(out, Key::Process, process_shown(shown))?;
+    put_number_if(out, Key::Review, review_shown(shown))?;
     put_number_if(out, Key::Session, session_shown(shown))
 }
 
@@ -148,7 +174,7 @@ fn put_review<N: NameOf>(
     list: &[Pair],
 ) -> Result<(), Memory>
     requires { ArePairsNameable (N.named names.now) list.now }
-    ensures { Appended out.old out.new (trailing_all (list_front head.now (N.name_at names.now) word list.now)) (front_most + item_most * length list.now) result }
+    ensures { Appended out.old out.new (trailing_all (list_front head.now (N.name_at names.now) word list.now)) (front_most + pair_most * length list.now) result }
 {
     put_number_if(out, Key::Id, head.id)?;
     put_list(out, names, list)?;
@@ -164,11 +190,21 @@ fn put_counted<N: NameOf>(
     counts: &[u64],
 ) -> Result<(), Memory>
     requires { Each (λ u. IsTrue (N.named names.now u)) users.now }
-    ensures { Appended out.old out.new (trailing_all (survey_front head.now (N.name_at names.now) users.now counts.now)) (front_most + item_most * length (zip users.now counts.now)) result }
+    ensures { Appended out.old out.new (trailing_all (survey_front head.now (N.name_at names.now) users.now counts.now)) (front_most + pair_most * length (zip users.now counts.now)) result }
 {
     put_survey(out, names, users, counts)?;
     put_number_if(out, Key::Id, head.id)?;
     put_word(out, Key::Ok, Word::Survey)
+}
+
+// One that tells what has changed in a list, and by which entry.
+fn put_last_change(out: &mut Vec<u8>, head: &Head, at: u64, list: &[Changed]) -> Result<(), Memory>
+    ensures { Appended out.old out.new (trailing_all (changes_front head.now at list.now)) (front_most + change_most * length list.now) result }
+{
+    put_number(out, Key::At, at)?;
+    put_number_if(out, Key::Id, head.id)?;
+    put_changed(out, list)?;
+    put_word(out, Key::Ok, Word::Changes)
 }
 
 fn put_front<N: NameOf>(
@@ -188,6 +224,8 @@ fn put_front<N: NameOf>(
         Reply::Survey { users, counts } => {
             put_counted(out, head, names, users.as_slice(), counts.as_slice())
         }
+        Reply::Kept { list } => put_review(out, head, names, Word::Kept, list.as_slice()),
+        Reply::Changes { at, list } => put_last_change(out, head, *at, list.as_slice()),
         Reply::Bad(bad) => put_bad(out, head, bad),
         Reply::Ahead => put_no(out, head, Word::Ahead),
         Reply::Refused(why) => put_refusal(out, head, names, why),
@@ -218,6 +256,8 @@ fn put_back(out: &mut Vec<u8>, reply: &Reply) -> Result<(), Memory>
         | Reply::Caps { .. }
         | Reply::Entries { .. }
         | Reply::Survey { .. }
+        | Reply::Kept { .. }
+        | Reply::Changes { .. }
         | Reply::Bad(_)
         | Reply::Ahead
         | Reply::Refused(_)
@@ -300,8 +340,8 @@ fn whole_or_none(
 }
 
 /// Appends the line of the reply, its line feed included. On Memory `out` is as before; with room for as many bytes as
-/// `longest` says it is Ok: for 1,024, and for 90 more for each item of the list of a review. `names` is asked for each element that the reply tells by
-/// its number.
+/// `longest` says it is Ok: for 1,024, and for each item of a list 90 more, or 107 where the list tells what has changed. `names`
+/// is asked for each element that the reply tells by its number.
 pub fn print_reply<N: NameOf>(
     id: Option<u64>,
     version: u64,

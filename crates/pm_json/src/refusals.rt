@@ -20,6 +20,7 @@ fn table_word(table: Table) -> Word
         Table::Obligations => Word::Obligations,
         Table::Sessions => Word::Sessions,
         Table::Processes => Word::Processes,
+        Table::Reviews => Word::Reviews,
         Table::Rights => Word::Rights,
         Table::History => Word::History,
     }
@@ -32,6 +33,7 @@ pub(crate) fn refusal_word(why: &Refusal) -> Word
     match why {
         Refusal::UnknownProcess => Word::UnknownProcess,
         Refusal::UnknownSession => Word::UnknownSession,
+        Refusal::UnknownReview => Word::UnknownReview,
         Refusal::UnknownName { .. } => Word::UnknownName,
         Refusal::Denied { .. } => Word::Denied,
         Refusal::BadKinds => Word::BadKinds,
@@ -140,6 +142,7 @@ pub(crate) fn put_refusal<N: NameOf>(
     match why {
         Refusal::UnknownProcess => put_no(out, head, Word::UnknownProcess),
         Refusal::UnknownSession => put_no(out, head, Word::UnknownSession),
+        Refusal::UnknownReview => put_no(out, head, Word::UnknownReview),
         Refusal::UnknownName { name } => put_unknown_name(out, head, name),
         Refusal::Denied {
             right,

@@ -1,10 +1,12 @@
 //! A function for each row of the table of commands, and the row of a word.
-ghost use Rattle.std.specs.Prelude.{Result, ◌≡◌};
+ghost use Rattle.std.specs.Prelude.{Result, Ok, ◌≡◌};
 ghost use Rattle.serde_json.specs.View.{view};
-ghost use Rattle.pm_model.specs.Forms.{looking};
-ghost use Rattle.pm_model.specs.Asked.{access_of, admin_of, assign_of, associate_of, caps_of, close_session_of, create_of, create_pc_of, deassign_of, define_right_of, delete_of, dissociate_of, do_at, end_process_of, ends_of, entries_of, lift_of, oblige_of, open_session_of, prohibit_of, review_of, row_of, start_process_of, survey_of, when_at, withdraw_of};
+ghost use Rattle.pm_model.specs.Forms.{kind_of, looking};
+ghost use Rattle.pm_model.specs.Results.{and_then};
+ghost use Rattle.pm_model.specs.Asked.{access_of, admin_of, assign_of, associate_of, caps_of, changes_of, close_session_of, create_of, create_pc_of, deassign_of, define_right_of, delete_of, dissociate_of, do_at, drop_review_of, end_process_of, ends_of, entries_of, keep_of, kept_of, lift_of, name_at, oblige_of, open_session_of, prohibit_of, required, review_of, row_of, start_process_of, survey_of, when_at, withdraw_of};
 ghost use Rattle.pm_model.specs.declared.lines.BadLine.{BadLine};
 ghost use Rattle.pm_model.specs.declared.requests.Command.{Command};
+ghost use Rattle.pm_model.specs.declared.requests.Command.TheVariants.{Keep};
 ghost use Rattle.pm_model.specs.declared.requests.Question.{Question};
 ghost use Rattle.pm_json.specs.Reads.{Reads, ReadsRow};
 
@@ -12,7 +14,7 @@ use crate::errors::ReadError;
 use crate::forms::{mode_at, name_at, number_at, process, rights_at, sets, subject_at, users_at};
 use crate::responses::response;
 use crate::terms::when;
-use pm_model::{Awaited, BadLine, Body, Command, Key, Kind, Name, Question, Response};
+use pm_model::{Awaited, BadLine, Body, Command, Key, Kind, Name, Question, Response, ReviewOf};
 use serde_json::Value;
 use std::alloc::Global;
 
@@ -179,6 +181,42 @@ fn withdraw(value: &Value) -> Result<Command, BadLine>
     Ok(Command::Withdraw { name })
 }
 
+// With the word of what is kept.
+#[tactic(auto, unfolding(pm_model::specs::Words::word_text))]
+fn keep_named(word: &str, value: &Value) -> Result<Command, BadLine>
+    ensures { result ≡ and_then (required Key.Kind (kind_of word.now)) (λ kind. and_then (name_at (looking (view value.now)) Key.Of) (λ name. Ok (Keep (kind name)))) }
+{
+    match word {
+        "caps" => {
+            let user = name_at(Key::Of, value)?;
+            let of = ReviewOf::Caps(user);
+            Ok(Command::Keep { of })
+        }
+        "entries" => {
+            let element = name_at(Key::Of, value)?;
+            let of = ReviewOf::Entries(element);
+            Ok(Command::Keep { of })
+        }
+        _ => Err(BadLine::BadField(Key::Kind)),
+    }
+}
+
+fn keep(value: &Value) -> Result<Command, BadLine>
+    ensures { result ≡ keep_of (looking (view value.now)) }
+{
+    match value.get(Key::Kind.text()).and_then(Value::as_str) {
+        None => Err(BadLine::BadField(Key::Kind)),
+        Some(word) => keep_named(word, value),
+    }
+}
+
+fn drop_review(value: &Value) -> Result<Command, BadLine>
+    ensures { result ≡ drop_review_of (looking (view value.now)) }
+{
+    let review = number_at(Key::Review, value)?;
+    Ok(Command::DropReview { review })
+}
+
 fn access(value: &Value) -> Result<Body, ReadError>
     ensures { Reads result (access_of (looking (view value.now))) }
 {
@@ -231,6 +269,20 @@ fn survey(alloc: Global, value: &Value) -> Result<Question, ReadError>
     Ok(Question::Survey { users })
 }
 
+fn kept(value: &Value) -> Result<Question, BadLine>
+    ensures { result ≡ kept_of (looking (view value.now)) }
+{
+    let review = number_at(Key::Review, value)?;
+    Ok(Question::Kept { review })
+}
+
+fn changes(value: &Value) -> Result<Question, BadLine>
+    ensures { result ≡ changes_of (looking (view value.now)) }
+{
+    let review = number_at(Key::Review, value)?;
+    Ok(Question::Changes { review })
+}
+
 fn review(question: Result<Question, ReadError>, value: &Value) -> Result<Body, ReadError>
     ensures { (q : Result Question BadLine) → Reads question q → Reads result (review_of (looking (view value.now)) q) }
 {
@@ -275,10 +327,14 @@ pub(crate) fn row(alloc: Global, word: &str, value: &Value) -> Option<Result<Bod
         "define_right" => Some(plain_admin(define_right(value), value)),
         "oblige" => Some(admin(oblige(alloc, value), value)),
         "withdraw" => Some(plain_admin(withdraw(value), value)),
+        "keep" => Some(plain_admin(keep(value), value)),
+        "drop_review" => Some(plain_admin(drop_review(value), value)),
         "access" => Some(access(value)),
         "caps" => Some(plain_review(caps(value), value)),
         "entries" => Some(plain_review(entries(value), value)),
         "survey" => Some(review(survey(alloc, value), value)),
+        "kept" => Some(plain_review(kept(value), value)),
+        "changes" => Some(plain_review(changes(value), value)),
         _ => None,
     }
 }

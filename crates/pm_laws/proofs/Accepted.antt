@@ -5,6 +5,7 @@ use Rattle.std.proofs.lemmas.Option.{same_Some}
 use Rattle.pm_model.specs.Reviews.{reviewed}
 use Rattle.pm_model.specs.State.{State, Graph}
 use Rattle.pm_model.specs.Effect.{effect}
+use Rattle.pm_model.specs.LastChanges.{with_changes}
 use Rattle.pm_model.specs.Events.{obliging, responders}
 use Rattle.pm_model.specs.Answer.{Answer, told, responded, settled, made, granted_with, proposed, longest_history, answer}
 use Rattle.pm_model.specs.Responses.{Stopped}
@@ -53,7 +54,7 @@ told-stepped S reply T some = absurd (cc)
 settled-stepped : (S : State) (reply : Reply) (r : Result Graph Stopped) → ((H : Graph) → r ≡ Ok H → GiveOneAtMost S.graph H) →
     IsStepped S (settled S reply r)
 settled-stepped S reply (Ok H) gives = λ T some.
-    let next : State = record { graph = H; version = S.version + 1 } in
+    let next : State = record { graph = with_changes S.graph (S.version + 1) H; version = S.version + 1 } in
     subst (IsNext S) (same_Some next T some) (record { given = gives H refl; counted = refl })
 settled-stepped S reply (Err stop) gives = told-stepped S (ResponseRefused stop.obligation stop.action stop.why)
 

@@ -3,15 +3,16 @@ use Rattle.std.proofs.Common.{◌≡◌, ◌<◌, ℕ, length, Option, Some, Non
 use Rattle.std.proofs.lemmas.Option.{slice_get_cases}
 use Rattle.pm_model.specs.State.{Graph}
 use Rattle.pm_model.specs.Prohibitions.{place_called, is_called}
-use Rattle.pm_model.specs.Resolve.{known, look_up, look_up_both, look_up_all, look_up_rights, look_up_subject, look_up_when, resolve}
+use Rattle.pm_model.specs.Resolve.{known, look_up, look_up_both, look_up_all, look_up_rights, look_up_subject, look_up_when, look_up_review, look_up_of, resolve}
 use Rattle.pm_model.specs.Obligations as obliged
 use Rattle.pm_model.specs.Authority.{watched_at, required}
 use Rattle.pm_model.specs.declared.events.Pattern.{Pattern}
 use Rattle.pm_model.specs.declared.requests.Command.{Command}
 use Rattle.pm_model.specs.declared.requests.Command.TheVariants as command
 use Rattle.pm_model.specs.declared.requests.Change.{Change}
-use Rattle.pm_model.specs.declared.requests.Change.TheVariants.{Lift, Withdraw}
-use Rattle.pm_laws.proofs.Resolved.{and_then-if, known-below}
+use Rattle.pm_model.specs.declared.requests.Change.TheVariants.{Lift, Withdraw, DropReview}
+use Rattle.pm_model.specs.declared.reviews.ReviewOf.{ReviewOf}
+use Rattle.pm_laws.proofs.Resolved.{and_then-if, known-below, looked_up-review}
 
 module _ (G : Graph) where
   abbrev Asks : Change → Type 0
@@ -35,6 +36,9 @@ module _ (G : Graph) where
     | inr past ↦ let none = past.0 in absurd (omega (arith, none, below))
   ]
 
+  drop-asks : (n : ℕ) (of : ReviewOf ℕ) → look_up_review G n ≡ Ok of → Asks (DropReview n)
+  drop-asks n of is = let k = looked_up-review G n of is in rw (k.1) (omega arith)
+
   resolved-asks : (u : ℕ) (c : Command) → IfOk (resolve G u c) Asks
   resolved-asks u (command.CreatePc name) = omega arith
   resolved-asks u (command.Create kind name into) = and_then-if Asks (look_up G into) _ (λ c is. omega arith)
@@ -54,6 +58,8 @@ module _ (G : Graph) where
   resolved-asks u (command.Withdraw name) =
       and_then-if Asks (known name (obliged.place_called G.obligations name)) _
       (λ i is. withdraw-asks i (known-below (obliged.is_called name) G.obligations name i is))
+  resolved-asks u (command.Keep of) = and_then-if Asks (look_up_of G of) _ (λ r is. omega arith)
+  resolved-asks u (command.DropReview n) = and_then-if Asks (look_up_review G n) _ (λ of is. drop-asks n of is)
 
 pub command_asks : (G : Graph) (u : ℕ) (c : Command) (d : Change) → resolve G u c ≡ Ok d → 0 < length (required G d)
 command_asks G u c d is = let h = resolved-asks G u c in rw is at h

@@ -7,7 +7,8 @@ use Rattle.std.proofs.lemmas.Option.{slice_get-get_or}
 use Rattle.pm_model.specs.State.{Graph, root}
 use Rattle.pm_model.specs.Sessions.{user_of}
 use Rattle.pm_model.specs.Resolve.{resolve}
-use Rattle.pm_model.specs.Authority.{right_to_create, to_prohibit_to, subject_element, prohibited_at, watched_at, obliged_at, required, is_administrative, denial_in, denied_unless, first_denied, permitted, ruling}
+use Rattle.pm_model.specs.KeptReviews.{KeptReview, kept_at}
+use Rattle.pm_model.specs.Authority.{right_to_create, to_prohibit_to, subject_element, prohibited_at, watched_at, obliged_at, kept_of, required, is_administrative, denial_in, denied_unless, first_denied, permitted, ruling}
 use Rattle.pm_model.specs.Formed.{Each, IsLive, IsUser, IsNamed, IsWellFormed, IsSubjectLive, IsProhibition, IsObligation}
 use Rattle.pm_model.specs.declared.elements.Kind.{Kind}
 use Rattle.pm_model.specs.declared.elements.Kind.TheVariants.{User, Ua, Object, Oa, Pc}
@@ -25,6 +26,7 @@ use Rattle.pm_laws.proofs.Items.{each-from, each-to, each-at, each-map, each-app
 use Rattle.pm_laws.proofs.Checks.{unless-ok}
 use Rattle.pm_laws.proofs.Numbers.{live-some}
 use Rattle.pm_laws.proofs.Obligations.{watched-live}
+use Rattle.pm_laws.proofs.KeptReviews.{kept-live}
 use Rattle.pm_laws.proofs.RightNames.{opening-few}
 use Rattle.pm_laws.proofs.Live.{user-live}
 use Rattle.pm_laws.proofs.Resolved.{and_then-ok, resolve-named}
@@ -84,6 +86,11 @@ required-live G (change.Withdraw i) f n = of (slice_get G.obligations i) refl wh
       pattern-live G o.pattern f (watched-live G.elements o.pattern.user is.user) is.target
   of None at = tt
 required-live G (change.DefineRight name) f n = (pm-live G f, tt)
+required-live G (change.Keep of) f n = (n, tt)
+required-live G (change.DropReview m) f n = by (kept_at G.kept m) refl where
+  by : (o : Option KeptReview) → kept_at G.kept m ≡ o → Each (λ (c : ℕ × ℕ). IsLive G.elements c.1) (kept_of o)
+  by (Some k) at = (kept-live G.elements G.kept m k f.kept at, tt)
+  by None at = tt
 
 -- ---- the rights that are asked for are administrative
 
@@ -127,6 +134,11 @@ required-administrative G (change.Withdraw i) = of (slice_get G.obligations i) w
   of (Some o) = watched-administrative o.pattern
   of None = tt
 required-administrative G (change.DefineRight name) = (refl, tt)
+required-administrative G (change.Keep of) = (refl, tt)
+required-administrative G (change.DropReview m) = by (kept_at G.kept m) where
+  by : (o : Option KeptReview) → Each (λ (c : ℕ × ℕ). is_administrative c.0 ≡ true) (kept_of o)
+  by (Some k) = (refl, tt)
+  by None = tt
 
 administrative-below : (r : ℕ) → is_administrative r ≡ true → r < 17
 administrative-below r h = let p = and_parts (nat_le 2 r) (nat_le r 16) h in let below = leb-true r 16 p.1 in omega (arith, below)

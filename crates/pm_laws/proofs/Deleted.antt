@@ -7,8 +7,10 @@ use Rattle.pm_model.specs.Containment.{Leads, IsContained}
 use Rattle.pm_model.specs.Sessions.{Procs, is_session_of}
 use Rattle.pm_model.specs.Prohibitions.{is_subject, names_element}
 use Rattle.pm_model.specs.Obligations.{concerns, is_given}
+use Rattle.pm_model.specs.KeptReviews as keeping
+use Rattle.pm_model.specs.KeptReviews.{KeptReview, reviews}
 use Rattle.pm_model.specs.Effect.{is_actor_kind, both, may_watch, may_assign, may_associate, is_from, is_to, has_child, has_end}
-use Rattle.pm_model.specs.Formed.{Each, AreRising, HaveOwnNames, AreElements, IsLive, IsUser, JoinsKinds, IsInClass, AreAssigned, JoinsAttributes, AreAssociations, AreProcs, IsSubjectLive, AreProhibitions, AreObligations, Stands, StandsAssigned, HasOpening}
+use Rattle.pm_model.specs.Formed.{Each, AreRising, HaveOwnNames, AreElements, IsLive, IsUser, JoinsKinds, IsInClass, AreAssigned, JoinsAttributes, AreAssociations, AreProcs, IsSubjectLive, AreProhibitions, AreObligations, AreKept, Stands, StandsAssigned, HasOpening}
 use Rattle.pm_model.specs.declared.elements.Kind.{Kind}
 use Rattle.pm_model.specs.declared.elements.Element.{Element}
 use Rattle.pm_model.specs.declared.rights.Association.{Association}
@@ -25,6 +27,7 @@ use Rattle.pm_laws.proofs.Pairs.{assigned-is, assigned-at, once-filter}
 use Rattle.pm_laws.proofs.Shape.{IsWithin, HasClass, acyclic-within, class-found, class-from}
 use Rattle.pm_laws.proofs.Prohibitions.{prohibitions-to}
 use Rattle.pm_laws.proofs.Obligations.{obligations-to}
+use Rattle.pm_laws.proofs.KeptReviews.{kept-to, may_keep-stays}
 
 -- ---- some elements of a list
 
@@ -212,6 +215,14 @@ module _ (id : ℕ) where
         author = user-left es o.author (apart o.author first.0) is.author;
         user = watched-left es o.pattern.user first.1 is.user;
         target = given-left es o.pattern.target both.1 is.target;
+      })
+
+  pub kept-unnamed : (es : List Element) (ks : List KeptReview) → list_any (reviews id) ks ≡ false → AreKept es ks → AreKept (left es) ks
+  kept-unnamed es ks none =
+      kept-to es (left es) ks (λ k c is.
+      let other : keeping.subject k.of ≡ id → ⊥ = apart (keeping.subject k.of) (none-at (reviews id) ks k none c) in record {
+        live = live-left es (keeping.subject k.of) other is.live;
+        kinds = may_keep-stays es (left es) k.of (found-left es (keeping.subject k.of) other is.live) is.kinds;
       })
 
   -- ---- the opening's

@@ -1,16 +1,18 @@
 -- A change keeps well formed: a lemma for each table in the graph, and a clause of `formed-changed` for each change.
-use Rattle.std.proofs.Common.{◌≡◌, ◌≤◌, ◌<◌, ◌||◌, ℕ, List, [], ◌∷◌, ◌++◌, length, Some, None, false, not, refl, subst, arith, Ok, remove}
+use Rattle.std.proofs.Common.{◌≡◌, ◌≤◌, ◌<◌, ◌||◌, ℕ, List, [], ◌∷◌, ◌++◌, length, map, Some, None, false, not, refl, subst, arith, Ok, remove}
 use Rattle.std.specs.List.{list_any}
 use Rattle.std.proofs.lemmas.Bool.{leb-false, ltb-false, not-false, or_parts}
 use Rattle.pm_model.specs.State.{Graph, element, is_named, opening, opening_elements, opening_assigned, root}
 use Rattle.pm_model.specs.Sessions.{Procs, is_session_of, opening_procs, processes_of, with_session, without_session, with_process, without_process}
 use Rattle.pm_model.specs.Prohibitions.{without_processes, names_element}
 use Rattle.pm_model.specs.Obligations.{concerns}
+use Rattle.pm_model.specs.KeptReviews.{KeptReview, new_review, reviews, unkept, with_review, without_review}
+use Rattle.pm_model.specs.LastChanges.{settled_review, with_changes}
 use Rattle.pm_model.specs.RightSet.{opening_rights}
 use Rattle.pm_model.specs.Containment.{contained}
 use Rattle.pm_model.specs.Effect.{refusal, changed, effect, checks, max_elements, placed, with_assignment, joins, has_child, has_end, is_in_use}
 use Rattle.pm_model.specs.Resolve.{unused}
-use Rattle.pm_model.specs.Formed.{Each, IsWellFormed, IsAcyclic, IsNamed, AreElements, AreAssigned, AreAssociations, AreProhibitions, AreObligations, AreRights, AreProcs, StandsAssigned}
+use Rattle.pm_model.specs.Formed.{Each, IsWellFormed, IsAcyclic, IsNamed, AreElements, AreAssigned, AreAssociations, AreProhibitions, AreObligations, AreRights, AreProcs, AreKept, StandsAssigned}
 use Rattle.pm_model.specs.declared.elements.Element.{Element}
 use Rattle.pm_model.specs.declared.rights.Association.{Association}
 use Rattle.pm_model.specs.declared.prohibitions.Prohibition.{Prohibition}
@@ -28,7 +30,8 @@ use Rattle.pm_laws.proofs.RightNames.{rights-more, rights-opening}
 use Rattle.pm_laws.proofs.Procs.{procs-opened, procs-closed, procs-started, procs-ended, procs-placed}
 use Rattle.pm_laws.proofs.Prohibitions.{prohibitions-pushed, prohibitions-removed, prohibitions-none, prohibitions-placed, prohibitions-rights, prohibitions-opened, prohibitions-started, prohibitions-left, process-kept, process-left}
 use Rattle.pm_laws.proofs.Obligations.{obligations-pushed, obligations-removed, obligations-none, obligations-placed}
-use Rattle.pm_laws.proofs.Deleted.{elements-left, assigned-left, associations-left, procs-left, prohibitions-unnamed, obligations-unnamed, opening-left}
+use Rattle.pm_laws.proofs.KeptReviews.{kept-more, kept-less, kept-none, kept-placed, kept-settled}
+use Rattle.pm_laws.proofs.Deleted.{elements-left, assigned-left, associations-left, procs-left, prohibitions-unnamed, obligations-unnamed, kept-unnamed, opening-left}
 use Rattle.pm_laws.proofs.Opening.{opening-placed, opening-within, opening-without}
 
 -- ---- elements
@@ -53,6 +56,7 @@ with-assigned G pairs f h o = record {
   obligations = f.obligations;
   rights = f.rights;
   procs = f.procs;
+  kept = f.kept;
   opening = record { elements = f.opening.elements; assigned = o };
 }
 
@@ -66,6 +70,7 @@ with-associations G associations f h = record {
   obligations = f.obligations;
   rights = f.rights;
   procs = f.procs;
+  kept = f.kept;
   opening = f.opening;
 }
 
@@ -79,6 +84,7 @@ with-prohibitions G ps f h = record {
   obligations = f.obligations;
   rights = f.rights;
   procs = f.procs;
+  kept = f.kept;
   opening = f.opening;
 }
 
@@ -92,6 +98,20 @@ with-obligations G os f h = record {
   obligations = h;
   rights = f.rights;
   procs = f.procs;
+  kept = f.kept;
+  opening = f.opening;
+}
+
+pub with-kept : (G : Graph) (ks : List KeptReview) → IsWellFormed G → AreKept G.elements ks → IsWellFormed (record G { kept = ks })
+with-kept G ks f h = record {
+  elements = f.elements;
+  assigned = f.assigned;
+  associations = f.associations;
+  prohibitions = f.prohibitions;
+  obligations = f.obligations;
+  rights = f.rights;
+  procs = f.procs;
+  kept = h;
   opening = f.opening;
 }
 
@@ -106,6 +126,7 @@ with-procs G P ps f h k = record {
   obligations = f.obligations;
   rights = f.rights;
   procs = h;
+  kept = f.kept;
   opening = f.opening;
 }
 
@@ -120,6 +141,7 @@ with-right G name f h = record {
   obligations = f.obligations;
   rights = h;
   procs = f.procs;
+  kept = f.kept;
   opening = f.opening;
 }
 
@@ -135,6 +157,7 @@ with-element G x pairs f u e h more = record {
   obligations = obligations-placed G.elements x G.obligations f.elements u f.obligations;
   rights = f.rights;
   procs = procs-placed G.elements x G.procs f.elements u f.procs;
+  kept = kept-placed G.elements x G.kept f.elements u f.kept;
   opening = record {
     elements = opening-placed x G.elements f.elements.rising u f.opening.elements;
     assigned = opening-within G.assigned pairs more f.opening.assigned;
@@ -151,16 +174,22 @@ without-element G id f later empty free = record {
   prohibitions = prohibitions-unnamed id G.elements G.procs G.rights G.prohibitions named.1 f.prohibitions;
   obligations = obligations-unnamed id G.elements G.obligations lists.1 f.obligations;
   rights = f.rights;
-  procs = procs-left id G.elements G.procs all.1 f.procs;
+  procs = procs-left id G.elements G.procs most.1 f.procs;
+  kept = kept-unnamed id G.elements G.kept all.1 f.kept;
   opening = opening-left id G.elements G.assigned later f.opening;
 } where
-  all : ((list_any (has_end id) G.associations || list_any (names_element id) G.prohibitions || list_any (concerns id) G.obligations) ≡ false)
-      × (list_any (is_session_of id) G.procs.sessions ≡ false)
+  all : ((list_any (has_end id) G.associations || list_any (names_element id) G.prohibitions || list_any (concerns id) G.obligations
+      || list_any (is_session_of id) G.procs.sessions) ≡ false)
+      × (list_any (reviews id) G.kept ≡ false)
   all = or_parts _ _ free
+
+  most : ((list_any (has_end id) G.associations || list_any (names_element id) G.prohibitions || list_any (concerns id) G.obligations) ≡ false)
+      × (list_any (is_session_of id) G.procs.sessions ≡ false)
+  most = or_parts _ _ all.0
 
   lists : ((list_any (has_end id) G.associations || list_any (names_element id) G.prohibitions) ≡ false)
       × (list_any (concerns id) G.obligations ≡ false)
-  lists = or_parts _ _ all.0
+  lists = or_parts _ _ most.0
 
   named : (list_any (has_end id) G.associations ≡ false) × (list_any (names_element id) G.prohibitions ≡ false)
   named = or_parts _ _ lists.0
@@ -233,10 +262,19 @@ formed-changed G (change.Withdraw i) f n r =
 formed-changed G (change.DefineRight name) f _ r =
     let p = passed (checks G (change.DefineRight name)) r in
     with-right G name f (rights-more G.rights name f.rights (or_parts _ _ p.0).0 (leb-false _ _ p.1.0))
+formed-changed G (change.Keep of) f n r =
+    let p = passed (checks G (change.Keep of)) r in
+    with-kept G (with_review (new_review (unkept G.kept) of) G.kept) f
+    (kept-more G.elements G.kept of f.kept n (not-false _ p.0) p.1.0 (leb-false _ _ p.1.1.0))
+formed-changed G (change.DropReview n) f _ r = with-kept G (without_review n G.kept) f (kept-less G.elements G.kept n f.kept)
 
 -- what an effect gives is well formed
 pub formed-effect : (G H : Graph) (c : Change) → IsWellFormed G → IsNamed G c → effect G c ≡ Ok H → IsWellFormed H
 formed-effect G H c f n e = let p = unless-ok (refusal G c) (changed G c) H e in subst IsWellFormed p.1 (formed-changed G c f n p.0)
+
+-- what the last changes of kept reviews are does not matter
+pub formed-settled : (G H : Graph) (version : ℕ) → IsWellFormed H → IsWellFormed (with_changes G version H)
+formed-settled G H version f = with-kept H (map (settled_review G H version) H.kept) f (kept-settled G H version H.elements H.kept f.kept)
 
 -- ---- the graph at the start
 
@@ -271,5 +309,6 @@ formed-opening = record {
     few_sessions = omega arith;
     few_processes = omega arith;
   };
+  kept = kept-none opening_elements;
   opening = record { elements = (refl, (refl, (refl, tt))); assigned = (refl, (refl, tt)) };
 }

@@ -65,6 +65,8 @@ changed-gives G c = of c where
   of (change.Oblige o) = (sessions, processes)
   of (change.Withdraw i) = (sessions, processes)
   of (change.DefineRight name) = (sessions, processes)
+  of (change.Keep r) = (sessions, processes)
+  of (change.DropReview n) = (sessions, processes)
 
 -- what an effect makes has the next numbers
 pub numbers-given : (G H : Graph) (c : Change) → effect G c ≡ Ok H → GiveNext G H

@@ -1,5 +1,5 @@
 -- Each answer leaves a well formed graph, where there is a number left for a new session or process.
-use Rattle.std.proofs.Common.{◌≡◌, List, [], ◌∷◌, length, Option, Some, None, Result, Ok, Err, Contains, refl, subst}
+use Rattle.std.proofs.Common.{◌≡◌, ◌+◌, List, [], ◌∷◌, length, Option, Some, None, Result, Ok, Err, Contains, refl, subst}
 use Rattle.pm_model.specs.State.{State, Graph}
 use Rattle.pm_model.specs.Effect.{refusal, changed, effect}
 use Rattle.pm_model.specs.Events.{event, obliging, raised, responders}
@@ -19,7 +19,7 @@ use Rattle.pm_model.specs.declared.replies.Refusal.{Refusal}
 use Rattle.pm_model.specs.declared.replies.Reply.{Reply}
 use Rattle.pm_model.specs.declared.replies.Reply.TheVariants.{Granted}
 use Rattle.pm_laws.proofs.Checks.{unless-ok}
-use Rattle.pm_laws.proofs.Formed.{formed-effect}
+use Rattle.pm_laws.proofs.Formed.{formed-effect, formed-settled}
 use Rattle.pm_laws.proofs.Resolved.{looked_up-live}
 use Rattle.pm_laws.proofs.Authority.{ruling-named}
 use Rattle.pm_laws.proofs.Responding.{responder-may, obliging-stands, responded-formed}
@@ -30,7 +30,7 @@ IsKept S a = IsWellFormed (after S a).graph
 
 settled-kept : (S : State) (reply : Reply) (r : Result Graph Stopped) → IsWellFormed S.graph → ((H : Graph) → r ≡ Ok H → IsWellFormed H) →
     IsKept S (settled S reply r)
-settled-kept S reply (Ok H) f each = each H refl
+settled-kept S reply (Ok H) f each = formed-settled S.graph H (S.version + 1) (each H refl)
 settled-kept S reply (Err stop) f each = f
 
 made-kept : (S : State) (c : Change) (reply : Reply) (e : Option Event) (obligations : List Obligation) (r : Result Graph Refusal) →

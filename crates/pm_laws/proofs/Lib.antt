@@ -16,6 +16,8 @@ pub mod Granted
 pub mod Items
 pub mod Joined
 pub mod Kept
+pub mod KeptReviews
+pub mod LastChanges
 pub mod Live
 pub mod Nameable
 pub mod Names

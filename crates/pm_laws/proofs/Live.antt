@@ -1,6 +1,6 @@
 -- What is live in a well formed graph: its classes, both ends of each association, what prohibitions name, the authors of
 -- obligations, the users of processes, and the root user.
-use Rattle.std.proofs.Common.{◌≡◌, ℕ, Bool, Option, Some, None, IsTrue, is_some, option_map, option_and_then, filter, Contains, refl, subst}
+use Rattle.std.proofs.Common.{◌≡◌, ℕ, Bool, true, Option, Some, None, IsTrue, is_some, option_map, option_and_then, filter, Contains, refl, subst}
 use Rattle.std.specs.List.{All}
 use Rattle.std.proofs.lemmas.List.Elements.{All-contains, All-contains_itself, All-filter, All-map}
 use Rattle.pm_model.specs.State.{Graph, element_at, is_class, classes_in}
@@ -40,10 +40,13 @@ ends-live G f =
     (λ a fits. both-live may_associate (element_at G.elements a.ua) (element_at G.elements a.at) fits) G.associations f.associations.kinds
 
 -- the subject is live, where it is an element
+abbrev pub is_subject_in : (ℕ → Bool) → Subject ℕ ℕ → Bool
+is_subject_in live (User n) = live n
+is_subject_in live (Ua n) = live n
+is_subject_in live (Process n) = true
+
 abbrev pub IsSubjectIn : (ℕ → Bool) → Subject ℕ ℕ → Type 0
-IsSubjectIn live (User n) = IsTrue (live n)
-IsSubjectIn live (Ua n) = IsTrue (live n)
-IsSubjectIn live (Process n) = Unit {0}
+IsSubjectIn live s = IsTrue (is_subject_in live s)
 
 -- all that the prohibition names is live
 abbrev pub NamesIn : (ℕ → Bool) → Prohibition → Type 0
@@ -61,7 +64,7 @@ prohibitions-live G f =
       of : (s : Subject ℕ ℕ) → IsSubjectLive G.elements G.procs s → IsSubjectIn live s
       of (User n) h = h
       of (Ua n) h = h
-      of (Process n) h = tt
+      of (Process n) h = refl
 
 -- the author of an obligation is a user
 pub author_is : (G : Graph) (o : Obligation) → IsWellFormed G → Contains G.obligations o → IsUser G.elements o.author

@@ -124,7 +124,7 @@ module _ (G : Graph) where
       and_then-of (λ _. ⊤) (IsTellable named-in) (resolve_question G question) (permitted_review G u q) (question-told named-in G question)
       (λ r is. then-told named-in (unless (first_denied G u q (required_by r)) r) (unless (first_of (review_checks G r)))
       (unless-err (IsTellable named-in) (first_denied G u q (required_by r)) r
-      (first_denied-told u q (required_by r) f (asked-live G (subjects_of r) (question-live G question r is))))
+      (first_denied-told u q (required_by r) f (asked-live G (subjects_of r) (question-live G question r f is))))
       (λ s. kinds-told named-in G r s))
 
 -- ---- answers
@@ -189,7 +189,7 @@ body-nameable S (body.Review q question) f =
     (acting-told (λ n. is_some (element_at S.graph.elements n)) S.graph q)
     (λ u acts. or_refused-nameable S (review_ruling S.graph u (Some q) question) (λ r. told (reviewed S.graph r))
     (review-told S.graph u (Some q) question f)
-    (λ r is. reviewed-nameable S.graph r f (review_of_live S.graph u (Some q) question r is)))
+    (λ r is. reviewed-nameable S.graph r f (review_of_live S.graph u (Some q) question r f is)))
 
 pub answer_nameable : (S : State) (r : Request) → IsWellFormed S.graph →
     IsNameable (λ n. is_some (element_at (after S (answer S r)).graph.elements n)) (answer S r).reply

@@ -1,9 +1,11 @@
 -- No number of a session or of a process is told twice: a reply that tells one tells the next, which rises above it.
-use Rattle.std.proofs.Common.{◌≡◌, ◌≤◌, ◌<◌, zero, suc, ℕ, List, [], ◌∷◌, length, take, slice_get, Option, Some, None, Result, Ok, Err, refl, sym, subst, arith}
+use Rattle.std.proofs.Common.{◌≡◌, ◌≤◌, ◌<◌, ◌+◌, zero, suc, ℕ, List, [], ◌∷◌, length, take, slice_get, Option, Some, None, Result, Ok, Err, refl, sym, subst, arith}
 use Rattle.std.proofs.lemmas.Option.{same_Some}
-use Rattle.pm_model.specs.Reviews.{reviewed}
+use Rattle.pm_model.specs.KeptReviews.{KeptReview, kept_at}
+use Rattle.pm_model.specs.LastChanges.{with_changes}
+use Rattle.pm_model.specs.Reviews.{last_change, reviewed}
 use Rattle.pm_model.specs.declared.requests.Review.{Review}
-use Rattle.pm_model.specs.declared.requests.Review.TheVariants.{Caps, Entries, Survey}
+use Rattle.pm_model.specs.declared.requests.Review.TheVariants.{Caps, Entries, Survey, Kept, Changes}
 use Rattle.pm_model.specs.State.{State, Graph, opening}
 use Rattle.pm_model.specs.Effect.{effect, changed, refusal}
 use Rattle.pm_model.specs.Made.{made_by, shown_of}
@@ -14,7 +16,7 @@ use Rattle.pm_model.specs.History.{replay_from}
 use Rattle.pm_model.specs.declared.events.Event.{Event}
 use Rattle.pm_model.specs.declared.obligations.Obligation.{Obligation}
 use Rattle.pm_model.specs.declared.requests.Change.{Change}
-use Rattle.pm_model.specs.declared.requests.Change.TheVariants.{Create, Delete, Assign, Deassign, Associate, Dissociate, OpenSession, CloseSession, StartProcess, EndProcess, Prohibit, Lift, Oblige, Withdraw, DefineRight}
+use Rattle.pm_model.specs.declared.requests.Change.TheVariants.{Create, Delete, Assign, Deassign, Associate, Dissociate, OpenSession, CloseSession, StartProcess, EndProcess, Prohibit, Lift, Oblige, Withdraw, DefineRight, Keep, DropReview}
 use Rattle.pm_model.specs.declared.requests.Entry.{Entry}
 use Rattle.pm_model.specs.declared.requests.Request.{Request}
 use Rattle.pm_model.specs.declared.replies.Refusal.{Refusal}
@@ -49,6 +51,8 @@ session-shown G (Lift i) n h = absurd (cc)
 session-shown G (Oblige o) n h = absurd (cc)
 session-shown G (Withdraw i) n h = absurd (cc)
 session-shown G (DefineRight name) n h = absurd (cc)
+session-shown G (Keep of) n h = absurd (cc)
+session-shown G (DropReview r) n h = absurd (cc)
 
 process-shown : (G : Graph) (c : Change) (n : ℕ) → shown_of (made_by G c) ≡ shown.Process n →
     (n ≡ G.procs.next_process) × (n < (changed G c).procs.next_process)
@@ -67,12 +71,14 @@ process-shown G (Lift i) n h = absurd (cc)
 process-shown G (Oblige o) n h = absurd (cc)
 process-shown G (Withdraw i) n h = absurd (cc)
 process-shown G (DefineRight name) n h = absurd (cc)
+process-shown G (Keep of) n h = absurd (cc)
+process-shown G (DropReview r) n h = absurd (cc)
 
 -- ---- numbers of one sort, by what a reply tells them and by the next one
 
 module _ (tells : ℕ → Shown) (next : Graph → ℕ) (apart : (n : ℕ) → shown.Nothing ≡ tells n → ⊥)
     (given : (G : Graph) (c : Change) (n : ℕ) → shown_of (made_by G c) ≡ tells n → (n ≡ next G) × (n < next (changed G c)))
-    (rises : (S T : State) → IsNext S T → next S.graph ≤ next T.graph) (left : (G H : Graph) → AreLeft G H → next H ≡ next G) where
+    (rises : (S T : State) → IsNext S T → next S.graph ≤ next T.graph) (left : (F G H : Graph) (version : ℕ) → AreLeft G H → next (with_changes F version H) ≡ next G) where
   -- an answer that tells a number tells the next, and is past it then
   abbrev TellsNext : State → Answer → Type 0
   TellsNext S a = (fired n : ℕ) → a.reply ≡ Done fired (tells n) → (n ≡ next S.graph) × (n < next (after S a).graph)
@@ -86,7 +92,7 @@ module _ (tells : ℕ → Shown) (next : Graph → ℕ) (apart : (n : ℕ) → s
       let same : shown_of (made_by S.graph c) ≡ tells n = cc in
       let g = given S.graph c n same in
       let p = unless-ok (refusal S.graph c) (changed S.graph c) G is in
-      (g.0, rw (left G H (kept H refl)) (subst (λ (K : Graph). n < next K) p.1 g.1))
+      (g.0, rw (left S.graph G H (S.version + 1) (kept H refl)) (subst (λ (K : Graph). n < next K) p.1 g.1))
   settled-next S c G fired (Err stop) is kept many n h = absurd (cc)
 
   made-next : (S : State) (c : Change) (fired : ℕ) (e : Option Event) (obligations : List Obligation) (r : Result Graph Refusal) →
@@ -108,6 +114,11 @@ module _ (tells : ℕ → Shown) (next : Graph → ℕ) (apart : (n : ℕ) → s
   reviewed-next S (Caps u) fired n is = absurd (cc)
   reviewed-next S (Entries e) fired n is = absurd (cc)
   reviewed-next S (Survey us) fired n is = absurd (cc)
+  reviewed-next S (Kept of) fired n is = absurd (cc)
+  reviewed-next S (Changes m of) fired n is = by (kept_at S.graph.kept m) fired n is where
+    by : (o : Option KeptReview) → TellsNext S (told (last_change o))
+    by None fired n is = absurd (cc)
+    by (Some k) fired n is = absurd (cc)
 
   answer-next : (S : State) (r : Request) → TellsNext S (answer S r)
   answer-next S r =
@@ -155,7 +166,7 @@ module _ (tells : ℕ → Shown) (next : Graph → ℕ) (apart : (n : ℕ) → s
 pub tells_once : (H : List Entry) → TellsOnce H
 tells_once H = record {
   sessions = rise-from shown.Session (λ (G : Graph). G.procs.next_session) (λ n is. cc) session-shown
-      (λ S T step. step.given.0.0) (λ G K left. left.1) opening H;
+      (λ S T step. step.given.0.0) (λ F G K version left. left.1) opening H;
   processes = rise-from shown.Process (λ (G : Graph). G.procs.next_process) (λ n is. cc) process-shown
-      (λ S T step. step.given.1.0) (λ G K left. left.2) opening H;
+      (λ S T step. step.given.1.0) (λ F G K version left. left.2) opening H;
 }

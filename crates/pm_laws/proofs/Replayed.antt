@@ -3,6 +3,7 @@ use Rattle.std.proofs.Common.{◌≡◌, ◌≤◌, ◌<◌, ◌+◌, ◌&&◌, 
 use Rattle.std.proofs.lemmas.Bool.{lt-leb}
 use Rattle.pm_model.specs.State.{State, Graph, opening}
 use Rattle.pm_model.specs.Effect.{effect}
+use Rattle.pm_model.specs.LastChanges.{with_changes}
 use Rattle.pm_model.specs.Events.{obliging, responders}
 use Rattle.pm_model.specs.Answer.{Answer, answer, after, proposed, entered, longest_history}
 use Rattle.pm_model.specs.History.{Machine, state_of, replay_from, replay, IsLegalFrom, IsLegal, IsReplayed, IsAnswered}
@@ -14,6 +15,7 @@ use Rattle.pm_model.specs.declared.requests.Change.{Change}
 use Rattle.pm_laws.specs.Meaning.{AreGivenBy, IsReached}
 use Rattle.pm_laws.proofs.Accepted.{IsNext, accepted-next, accepted-room}
 use Rattle.pm_laws.proofs.Formed.{formed-opening}
+use Rattle.pm_laws.proofs.KeptReviews.{with_changes_none}
 use Rattle.pm_laws.proofs.Bodies.{nothing_responds_to_change}
 use Rattle.pm_laws.proofs.Kept.{formed-answer}
 
@@ -125,6 +127,15 @@ grown M e legal answered room =
 -- a request that comes to this change, to which nothing responds, is answered by what the change makes
 pub answered-by : (M : Machine) (r : Request) (e : Option Event) (c : Change) (H : Graph) → IsReplayed M →
     proposed (state_of M) r ≡ entered (state_of M) e c → responders M.graph (obliging M.graph c) e ≡ [] →
-    effect M.graph c ≡ Ok H → IsAnswered (record { graph = H; history = M.history }) r
+    effect M.graph c ≡ Ok H → IsAnswered (record { graph = with_changes M.graph (length M.history + 1) H; history = M.history }) r
 answered-by M r e c H replayed proposal none made =
     ap (λ S. (proposed S r).next) replayed.content ∙ ap (λ (a : Answer). a.next) (proposal ∙ nothing_responds_to_change (state_of M) e c none) ∙ rw made refl
+
+-- where no review is kept, by this itself
+pub answered-plainly : (M : Machine) (r : Request) (e : Option Event) (c : Change) (H : Graph) → IsReplayed M → M.graph.kept ≡ [] →
+    proposed (state_of M) r ≡ entered (state_of M) e c → responders M.graph (obliging M.graph c) e ≡ [] →
+    effect M.graph c ≡ Ok H → IsAnswered (record { graph = H; history = M.history }) r
+answered-plainly M r e c H replayed unkept proposal none made =
+    answered-by M r e c H replayed proposal none made
+    ∙ ap (λ (K : Graph). let s : State = record { graph = K; version = length M.history + 1 } in Some s)
+    (with_changes_none M.graph H (length M.history + 1) unkept)

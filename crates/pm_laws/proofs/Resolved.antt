@@ -7,11 +7,13 @@ use Rattle.std.proofs.Math.Pow.{pow-lt}
 use Rattle.std.proofs.lemmas.Slice.Eq.{bytes_eq-Decides}
 use Rattle.pm_model.specs.Results.{and_then}
 use Rattle.pm_model.specs.State.{Graph, is_named, is_numbered, element_at, number_named}
-use Rattle.pm_model.specs.Resolve.{unused, known, look_up, look_up_both, look_up_all, look_up_rights, look_up_process, look_up_subject, prohibition, look_up_if, look_up_operation, look_up_when, obligation, resolve}
+use Rattle.pm_model.specs.Resolve.{unused, known, look_up, look_up_both, look_up_all, look_up_rights, look_up_process, look_up_subject, prohibition, look_up_if, look_up_operation, look_up_when, look_up_review, look_up_of, obligation, resolve}
 use Rattle.pm_model.specs.Obligations as obliged
 use Rattle.pm_model.specs.RightSet.{bit_named, with_right}
 use Rattle.pm_model.specs.Sessions.{is_process, process_at}
 use Rattle.pm_model.specs.Prohibitions.{is_called, place_called}
+use Rattle.pm_model.specs.KeptReviews as keeping
+use Rattle.pm_model.specs.KeptReviews.{KeptReview, kept_at}
 use Rattle.pm_model.specs.Effect.{effect}
 use Rattle.pm_model.specs.Formed.{Each, IsWellFormed, IsNamed, IsLive, IsUser, AreNamed, IsSubjectLive}
 use Rattle.pm_model.specs.declared.elements.Kind.TheVariants.{Pc}
@@ -25,7 +27,9 @@ use Rattle.pm_model.specs.declared.requests.Change.TheVariants as change
 use Rattle.pm_model.specs.declared.prohibitions.Subject.{Subject}
 use Rattle.pm_model.specs.declared.prohibitions.Subject.TheVariants as subject
 use Rattle.pm_model.specs.declared.replies.Refusal.{Refusal}
-use Rattle.pm_model.specs.declared.replies.Refusal.TheVariants.{UnknownProcess}
+use Rattle.pm_model.specs.declared.reviews.ReviewOf.{ReviewOf}
+use Rattle.pm_model.specs.declared.reviews.ReviewOf.TheVariants as of
+use Rattle.pm_model.specs.declared.replies.Refusal.TheVariants.{UnknownProcess, UnknownReview}
 use Rattle.pm_laws.specs.Meaning.{IsNumberOf}
 use Rattle.pm_laws.proofs.Items.{find-found, find-some, find-any}
 use Rattle.pm_laws.proofs.Numbers.{found-at, stands-at, live-some}
@@ -153,6 +157,24 @@ looked_up-when G when p h =
       pattern : List ℕ → Option ℕ → Option ℕ → Pattern
       pattern on user target = record { on = on; user = user; target = target }
 
+-- ---- reviews
+
+looked_up-of : (G : Graph) (of : ReviewOf (List ℕ)) (r : ReviewOf ℕ) → look_up_of G of ≡ Ok r → IsLive G.elements (keeping.subject r)
+looked_up-of G (of.Caps name) r h =
+    let n = and_then-ok (look_up G name) (λ n. Ok (of.Caps n)) r h in
+    subst (λ (r : ReviewOf ℕ). IsLive G.elements (keeping.subject r)) (ok-is _ (of.Caps n.0) r refl n.2) (looked_up-live G name n.0 n.1)
+looked_up-of G (of.Entries name) r h =
+    let n = and_then-ok (look_up G name) (λ n. Ok (of.Entries n)) r h in
+    subst (λ (r : ReviewOf ℕ). IsLive G.elements (keeping.subject r)) (ok-is _ (of.Entries n.0) r refl n.2) (looked_up-live G name n.0 n.1)
+
+-- what a number finds is kept
+pub looked_up-review : (G : Graph) (n : ℕ) (of : ReviewOf ℕ) → look_up_review G n ≡ Ok of →
+    (k : KeptReview) × (kept_at G.kept n ≡ Some k) × (k.of ≡ of)
+looked_up-review G n of h = by (kept_at G.kept n) refl where
+  by : (o : Option KeptReview) → kept_at G.kept n ≡ o → (k : KeptReview) × (kept_at G.kept n ≡ Some k) × (k.of ≡ of)
+  by (Some k) is = let known : look_up_review G n ≡ Ok k.of = rw is refl in (k, is, ok-is (look_up_review G n) k.of of known h)
+  by None is = absurd (let unknown : look_up_review G n ≡ Err UnknownReview = rw is refl in cc)
+
 -- ---- commands
 
 pub named-as : (G : Graph) (c d : Change) → ◌≡◌ {A = Result Change Refusal} (Ok c) (Ok d) → IsNamed G c → IsNamed G d
@@ -201,6 +223,13 @@ resolve-named G u (command.Oblige name when response) d user h =
 resolve-named G u (command.Withdraw name) d user h =
     let i = and_then-ok (known name (obliged.place_called G.obligations name)) (λ i. Ok (change.Withdraw i)) d h in
     named-as G (change.Withdraw i.0) d i.2 (known-below (obliged.is_called name) G.obligations name i.0 i.1)
+resolve-named G u (command.Keep of) d user h =
+    let r = and_then-ok (look_up_of G of) (λ r. Ok (change.Keep r)) d h in
+    named-as G (change.Keep r.0) d r.2 (looked_up-of G of r.0 r.1)
+resolve-named G u (command.DropReview n) d user h =
+    let r = and_then-ok (look_up_review G n) (λ of. Ok (change.DropReview n)) d h in
+    let k = looked_up-review G n r.0 r.1 in
+    named-as G (change.DropReview n) d r.2 (rw (k.1) refl)
 
 -- what a command makes of a well formed graph is well formed
 pub formed-administered : (G H : Graph) (u : ℕ) (c : Command) → IsWellFormed G → IsUser G.elements u →

@@ -87,18 +87,19 @@ module _ (G : Graph) where
 
 -- ---- what an action leaves as it is
 
--- the obligations, and the next numbers of sessions and processes
+-- the obligations, the next numbers of sessions and processes, and the kept reviews
 abbrev pub AreLeft : Graph → Graph → Type 0
 AreLeft G H =
     (H.obligations ≡ G.obligations) × (H.procs.next_session ≡ G.procs.next_session) × (H.procs.next_process ≡ G.procs.next_process)
+    × (H.kept ≡ G.kept)
 
 left-itself : (G : Graph) → AreLeft G G
-left-itself G = (refl, refl, refl)
+left-itself G = (refl, refl, refl, refl)
 
 left-then : (G H K : Graph) → AreLeft G H → AreLeft H K → AreLeft G K
-left-then G H K h k = (k.0 ∙ h.0, k.1 ∙ h.1, k.2 ∙ h.2)
+left-then G H K h k = (k.0 ∙ h.0, k.1 ∙ h.1, k.2 ∙ h.2, k.3 ∙ h.3)
 
--- neither of obligations nor of sessions and processes
+-- neither of obligations, nor of sessions and processes, nor of kept reviews
 is_plain : Change → Bool
 is_plain (change.Oblige o) = false
 is_plain (change.Withdraw i) = false
@@ -106,6 +107,8 @@ is_plain (change.OpenSession u) = false
 is_plain (change.CloseSession n) = false
 is_plain (change.StartProcess n) = false
 is_plain (change.EndProcess n) = false
+is_plain (change.Keep of) = false
+is_plain (change.DropReview n) = false
 is_plain _ = true
 
 plain-leaves : (G : Graph) (d : Change) → is_plain d ≡ true → AreLeft G (changed G d)
@@ -116,7 +119,9 @@ plain-leaves G (change.OpenSession u) plain = absurd (cc)
 plain-leaves G (change.CloseSession n) plain = absurd (cc)
 plain-leaves G (change.StartProcess n) plain = absurd (cc)
 plain-leaves G (change.EndProcess n) plain = absurd (cc)
-plain-leaves G _ plain = (refl, refl, refl)
+plain-leaves G (change.Keep of) plain = absurd (cc)
+plain-leaves G (change.DropReview n) plain = absurd (cc)
+plain-leaves G _ plain = (refl, refl, refl, refl)
 
 module _ (names : EventNames) (fresh : List ℕ) (G : Graph) where
   abbrev IsPlain : Change → Type 0
@@ -220,6 +225,9 @@ module _ (names : EventNames) (version : ℕ) where
   pub responses_keep_obligations : (G H : Graph) (obligations : List Obligation) → responses names version G obligations ≡ Ok H →
       H.obligations ≡ G.obligations
   responses_keep_obligations G H obligations h = (responses-left G H obligations h).0
+
+  pub responses_keep_reviews : (G H : Graph) (obligations : List Obligation) → responses names version G obligations ≡ Ok H → H.kept ≡ G.kept
+  responses_keep_reviews G H obligations h = (responses-left G H obligations h).3
 
   -- the obligations stand, and so their authors are users all along
   abbrev IsUnderway : Graph → Graph → Type 0

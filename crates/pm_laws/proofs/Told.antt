@@ -8,8 +8,9 @@ use Rattle.pm_model.specs.State.{Graph, number_named}
 use Rattle.pm_model.specs.RightSet.{bit_named, with_right}
 use Rattle.pm_model.specs.Sessions.{is_process}
 use Rattle.pm_model.specs.Prohibitions.{place_called}
-use Rattle.pm_model.specs.Resolve.{unused, known, look_up, look_up_both, look_up_all, look_up_rights, look_up_process, look_up_subject, prohibition, look_up_if, look_up_operation, look_up_when, obligation, resolve, resolve_question}
+use Rattle.pm_model.specs.Resolve.{unused, known, look_up, look_up_both, look_up_all, look_up_rights, look_up_process, look_up_subject, prohibition, look_up_if, look_up_operation, look_up_when, look_up_review, look_up_of, obligation, resolve, resolve_question}
 use Rattle.pm_model.specs.Obligations as obliged
+use Rattle.pm_model.specs.KeptReviews.{KeptReview, kept_at}
 use Rattle.pm_model.specs.Operations.{is_operation}
 use Rattle.pm_model.specs.Effect.{checks, refusal, changed, effect}
 use Rattle.pm_model.specs.Reviews.{review_checks}
@@ -26,6 +27,8 @@ use Rattle.pm_model.specs.declared.requests.Review.{Review}
 use Rattle.pm_model.specs.declared.requests.Review.TheVariants as review
 use Rattle.pm_model.specs.declared.prohibitions.Subject.{Subject}
 use Rattle.pm_model.specs.declared.prohibitions.Subject.TheVariants as subject
+use Rattle.pm_model.specs.declared.reviews.ReviewOf.{ReviewOf}
+use Rattle.pm_model.specs.declared.reviews.ReviewOf.TheVariants as of
 use Rattle.pm_model.specs.declared.replies.Refusal.{Refusal}
 use Rattle.pm_model.specs.declared.replies.Refusal.TheVariants.{UnknownProcess, UnknownName}
 
@@ -109,6 +112,16 @@ module _ (named : ℕ → Bool) where
       (λ on. then-told (look_up_if G when.user) _ (if-told G when.user)
       (λ user. then-told (look_up_if G when.target) _ (if-told G when.target) (λ target. tt)))
 
+  review-told : (G : Graph) (n : ℕ) → IsTold (look_up_review G n)
+  review-told G n = by (kept_at G.kept n) refl where
+    by : (o : Option KeptReview) → kept_at G.kept n ≡ o → IsTold (look_up_review G n)
+    by (Some k) is = rw is tt
+    by None is = rw is tt
+
+  of-told : (G : Graph) (of : ReviewOf (List ℕ)) → IsTold (look_up_of G of)
+  of-told G (of.Caps name) = then-told (look_up G name) (λ n. Ok (of.Caps n)) (look_up-told G name) (λ n. tt)
+  of-told G (of.Entries name) = then-told (look_up G name) (λ n. Ok (of.Entries n)) (look_up-told G name) (λ n. tt)
+
   pub resolve-told : (G : Graph) (u : ℕ) (c : Command) → IsTold (resolve G u c)
   resolve-told G u (command.CreatePc name) = tt
   resolve-told G u (command.Create kind name into) =
@@ -139,11 +152,15 @@ module _ (named : ℕ → Bool) where
   resolve-told G u (command.Withdraw name) =
       then-told (known name (obliged.place_called G.obligations name)) (λ i. Ok (change.Withdraw i))
       (known-told name (obliged.place_called G.obligations name)) (λ i. tt)
+  resolve-told G u (command.Keep of) = then-told (look_up_of G of) (λ r. Ok (change.Keep r)) (of-told G of) (λ r. tt)
+  resolve-told G u (command.DropReview n) = then-told (look_up_review G n) (λ of. Ok (change.DropReview n)) (review-told G n) (λ of. tt)
 
   pub question-told : (G : Graph) (q : Question) → IsTold (resolve_question G q)
   question-told G (question.Caps user) = then-told (look_up G user) (λ u. Ok (review.Caps u)) (look_up-told G user) (λ u. tt)
   question-told G (question.Entries element) = then-told (look_up G element) (λ e. Ok (review.Entries e)) (look_up-told G element) (λ e. tt)
   question-told G (question.Survey users) = then-told (look_up_all G users) (λ us. Ok (review.Survey us)) (all-told G users) (λ us. tt)
+  question-told G (question.Kept n) = then-told (look_up_review G n) (λ of. Ok (review.Kept of)) (review-told G n) (λ of. tt)
+  question-told G (question.Changes n) = then-told (look_up_review G n) (λ of. Ok (review.Changes n of)) (review-told G n) (λ of. tt)
 
   -- ---- preconditions
 
@@ -163,6 +180,8 @@ module _ (named : ℕ → Bool) where
   checks-told G (change.Oblige o) = (tt, (tt, (tt, tt)))
   checks-told G (change.Withdraw i) = tt
   checks-told G (change.DefineRight name) = (tt, (tt, tt))
+  checks-told G (change.Keep of) = (tt, (tt, (tt, tt)))
+  checks-told G (change.DropReview n) = tt
 
   pub effect-told : (G : Graph) (change : Change) → IsTold (effect G change)
   effect-told G change =
@@ -173,6 +192,8 @@ module _ (named : ℕ → Bool) where
   review_checks-told G (review.Caps u) = (tt, tt)
   review_checks-told G (review.Entries e) = tt
   review_checks-told G (review.Survey us) = (tt, tt)
+  review_checks-told G (review.Kept of) = tt
+  review_checks-told G (review.Changes n of) = tt
 
   pub kinds-told : (G : Graph) (r s : Review) → IsTold (unless (first_of (review_checks G r)) s)
   kinds-told G r s = unless-err IsTellable (first_of (review_checks G r)) s (first_of-each IsTellable (review_checks G r) (review_checks-told G r))

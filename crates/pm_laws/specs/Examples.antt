@@ -4,12 +4,14 @@ use Rattle.pm_model.specs.State.{Graph, element, opening, opening_graph, opening
 use Rattle.pm_model.specs.RightSet.{opening_rights}
 use Rattle.pm_model.specs.Sessions.{Procs, session, process}
 use Rattle.pm_model.specs.Resolve.{prohibition}
+use Rattle.pm_model.specs.KeptReviews.{KeptReview, new_review}
+use Rattle.pm_model.specs.LastChanges.{changed}
 use Rattle.pm_model.specs.declared.elements.Kind.TheVariants.{User, Ua, Object, Pc}
 use Rattle.pm_model.specs.declared.elements.Element.{Element}
 use Rattle.pm_model.specs.declared.requests.Command.{Command}
 use Rattle.pm_model.specs.declared.requests.Command.TheVariants as command
 use Rattle.pm_model.specs.declared.requests.Change.{Change}
-use Rattle.pm_model.specs.declared.requests.Change.TheVariants.{Create, Delete, Assign, Deassign, Associate, Dissociate, OpenSession, CloseSession, StartProcess, EndProcess, Prohibit, Lift, Oblige, Withdraw, DefineRight}
+use Rattle.pm_model.specs.declared.requests.Change.TheVariants.{Create, Delete, Assign, Deassign, Associate, Dissociate, OpenSession, CloseSession, StartProcess, EndProcess, Prohibit, Lift, Oblige, Withdraw, DefineRight, Keep, DropReview}
 use Rattle.pm_model.specs.declared.rights.Association.{Association}
 use Rattle.pm_model.specs.declared.prohibitions.Prohibition.{Prohibition}
 use Rattle.pm_model.specs.declared.prohibitions.Mode.TheVariants.{All}
@@ -20,6 +22,7 @@ use Rattle.pm_model.specs.declared.actions.Term.TheVariants.{EventTarget}
 use Rattle.pm_model.specs.declared.actions.Act.TheVariants as act
 use Rattle.pm_model.specs.declared.sessions.Session.{Session}
 use Rattle.pm_model.specs.declared.sessions.Process.{Process}
+use Rattle.pm_model.specs.declared.reviews.ReviewOf.TheVariants.{Caps, Entries}
 use Rattle.pm_model.specs.declared.replies.Refusal.{Refusal}
 use Rattle.pm_model.specs.declared.replies.Refusal.TheVariants.{UnknownProcess, UnknownSession, UnknownName, Denied, BadKinds, NameTaken, Already, Absent, Cycle, Occupied, LastContainer, Builtin, EmptyRange, InUse}
 use Rattle.pm_model.specs.declared.replies.Reason.TheVariants as reason
@@ -98,6 +101,23 @@ watching obligations =
     record (opening_with (doctors ∷ surgeons ∷ element 5 User (codes "ann") ∷ element 6 Object (codes "chart") ∷ [])
     ((3, 0) ∷ (4, 3) ∷ (5, 3) ∷ (6, 0) ∷ [])) { obligations = obligations }
 
+-- the same with no obligation, and with these kept reviews
+abbrev pub keeping : List KeptReview → Graph
+keeping ks = record (watching []) { kept = ks }
+
+-- the same without the chart
+abbrev pub without_chart : List KeptReview → Graph
+without_chart ks =
+    record (opening_with (doctors ∷ surgeons ∷ element 5 User (codes "ann") ∷ []) ((3, 0) ∷ (4, 3) ∷ (5, 3) ∷ [])) { kept = ks }
+
+-- what ann may do, which no entry has changed
+abbrev pub of_ann : KeptReview
+of_ann = new_review 0 (Caps 5)
+
+-- who may do something to the chart, which the seventh entry has changed last
+abbrev pub of_chart : KeptReview
+of_chart = record { number = 1; of = Entries 6; at = 7; changed = changed (codes "ann") 0 1 ∷ [] }
+
 -- a graph, a change of it, and what the change makes
 abbrev pub made : List (Graph × Change × Graph)
 made =
@@ -142,6 +162,15 @@ made =
       record (opening_with (doctors ∷ surgeons ∷ element 6 Object (codes "chart") ∷ [])
           ((3, 0) ∷ (4, 3) ∷ (6, 0) ∷ [])) { obligations = log ∷ [] },
     )
+    ∷ (keeping [], Keep (Caps 5), keeping (of_ann ∷ []))
+    ∷ (keeping (of_ann ∷ []), Keep (Entries 6), keeping (of_ann ∷ new_review 1 (Entries 6) ∷ []))
+    -- entries are of any element, and of a user beside what the user may do
+    ∷ (keeping (of_ann ∷ of_chart ∷ []), Keep (Entries 5), keeping (of_ann ∷ of_chart ∷ new_review 2 (Entries 5) ∷ []))
+    -- a review that is dropped leaves the others, and its number comes back
+    ∷ (keeping (of_ann ∷ of_chart ∷ []), DropReview 0, keeping (of_chart ∷ []))
+    ∷ (keeping (of_chart ∷ []), Keep (Caps 5), keeping (of_ann ∷ of_chart ∷ []))
+    -- without a review of it the chart may go
+    ∷ (keeping (of_ann ∷ []), Delete 6, without_chart (of_ann ∷ []))
     ∷ (opening.graph, DefineRight (codes "sign"), record opening_graph { rights = opening_rights ++ codes "sign" ∷ [] }) ∷ []
 
 -- a change of `staffed`, and why it is refused
@@ -193,6 +222,17 @@ refused_at_watch =
     -- the author, the user and the target
     ∷ (Delete 5, InUse)
     ∷ (Delete 4, InUse)
+    ∷ (Delete 6, InUse) ∷ []
+
+-- a change where two reviews are kept, and why it is refused
+abbrev pub refused_at_review : List (Change × Refusal)
+refused_at_review =
+    -- what the chart may do, and what is kept
+    (Keep (Caps 6), BadKinds)
+    ∷ (Keep (Caps 5), Already)
+    ∷ (Keep (Entries 6), Already)
+    -- what a review is of
+    ∷ (Delete 5, InUse)
     ∷ (Delete 6, InUse) ∷ []
 
 -- element 4 is at an end of an association, named by a prohibition, or the user of a session
@@ -278,6 +318,14 @@ unformed =
     ∷ watching (obligation (codes "bar") 4 None None ∷ [])
     ∷ watching (obligation (codes "bar") 5 (Some 6) None ∷ [])
     ∷ watching (obligation (codes "bar") 5 None (Some 7) ∷ [])
+    -- two kept reviews of the same, and two of one number
+    ∷ keeping (of_ann ∷ new_review 1 (Caps 5) ∷ [])
+    ∷ keeping (of_ann ∷ new_review 0 (Entries 6) ∷ [])
+    -- a number that is too high
+    ∷ keeping (new_review 256 (Caps 5) ∷ [])
+    -- a review of nothing, and one of what a chart may do
+    ∷ keeping (new_review 0 (Entries 7) ∷ [])
+    ∷ keeping (new_review 0 (Caps 6) ∷ [])
     -- a process of no session
     ∷ working (procs (session 0 2 ∷ []) (process 0 0 ∷ process 1 1 ∷ []) 2 2) []
     -- a session of no element, of a class, of a user attribute

@@ -1,10 +1,12 @@
 -- What the definitions come to, in the standard's words: assignments join elements of certain kinds and order them, each
 -- element leads to a policy class, each process acts for one user, and an obligation's pattern says which events it
 -- matches. What is said of names and of numbers is the project's own.
-use Rattle.std.specs.Prelude.{◌≡◌, ◌≤◌, ◌<◌, ◌+◌, ◌⊎◌, ℕ, List, length, take, slice_get, Contains, Some, IfSome, true}
+use Rattle.std.specs.Prelude.{◌≡◌, ◌≤◌, ◌<◌, ◌+◌, ◌⊎◌, ℕ, List, [], length, take, slice_get, Contains, None, Some, IfSome, true}
 use Rattle.pm_model.specs.State.{State, Graph, element_at}
 use Rattle.pm_model.specs.Containment.{IsContained}
 use Rattle.pm_model.specs.Effect.{may_assign}
+use Rattle.pm_model.specs.KeptReviews.{KeptReview, kept_at}
+use Rattle.pm_model.specs.LastChanges.{changes_in, with_last}
 use Rattle.pm_model.specs.Answer.{answer, longest_history}
 use Rattle.pm_model.specs.History.{replay}
 use Rattle.pm_model.specs.Formed.{IsUser, IsWellFormed}
@@ -80,6 +82,22 @@ pub record IsMatched (G : Graph) (pattern : Pattern) (event : Event) : Type 0 wh
   pub operation : event.operation ≡ pattern.on
   pub user : IfSome pattern.user (IsContained G.assigned event.user)
   pub target : IfSome pattern.target (IsContained G.assigned event.target)
+
+-- ---- kept reviews
+
+-- reviews don't tell the two graphs apart: their elements, assignments, associations and prohibitions are the same
+pub record AreAlike (G H : Graph) : Type 0 where
+  pub elements : H.elements ≡ G.elements
+  pub assigned : H.assigned ≡ G.assigned
+  pub associations : H.associations ≡ G.associations
+  pub prohibitions : H.prohibitions ≡ G.prohibitions
+
+-- the last change of a review that is kept all along is the one between the two graphs, of the later version, where there is
+-- one, and else as before; a review that is new has none
+pub record TellLast (S T : State) : Type 0 where
+  pub kept : (n : ℕ) (k j : KeptReview) → kept_at S.graph.kept n ≡ Some k → kept_at T.graph.kept n ≡ Some j →
+      j ≡ with_last T.version (changes_in S.graph T.graph k.of) k
+  pub new : (n : ℕ) (j : KeptReview) → kept_at S.graph.kept n ≡ None → kept_at T.graph.kept n ≡ Some j → (j.at ≡ 0) × (j.changed ≡ [])
 
 -- ---- histories
 

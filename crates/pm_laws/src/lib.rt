@@ -8,6 +8,8 @@ ghost use Rattle.pm_model.specs.Sessions.{user_of};
 ghost use Rattle.pm_model.specs.Containment.{contained, IsContained};
 ghost use Rattle.pm_model.specs.Decision.{privilege, forbids};
 ghost use Rattle.pm_model.specs.Results.{and_then};
+ghost use Rattle.pm_model.specs.KeptReviews.{KeptReview, kept_at, new_review, subject, unkept};
+ghost use Rattle.pm_model.specs.LastChanges.{changes_at, changes_between, with_changes};
 ghost use Rattle.pm_model.specs.Effect.{changed, effect};
 ghost use Rattle.pm_model.specs.Resolve.{resolve};
 ghost use Rattle.pm_model.specs.Answer.{answer, after, told, entered, granted};
@@ -29,7 +31,7 @@ ghost use Rattle.pm_model.specs.declared.actions.Action.{Action};
 ghost use Rattle.pm_model.specs.declared.events.Event.{Event};
 ghost use Rattle.pm_model.specs.declared.events.EventNames.{EventNames};
 ghost use Rattle.pm_model.specs.declared.requests.Change.{Change};
-ghost use Rattle.pm_model.specs.declared.requests.Change.TheVariants.{CloseSession, Delete};
+ghost use Rattle.pm_model.specs.declared.requests.Change.TheVariants.{CloseSession, Delete, Keep, DropReview};
 ghost use Rattle.pm_model.specs.declared.replies.Refusal.TheVariants.{InUse};
 ghost use Rattle.pm_model.specs.declared.replies.Reply.TheVariants.{Granted};
 ghost use Rattle.pm_model.specs.declared.requests.Command.{Command};
@@ -38,10 +40,13 @@ ghost use Rattle.pm_model.specs.declared.requests.Request.{Request};
 ghost use Rattle.pm_model.specs.declared.requests.Question.{Question};
 ghost use Rattle.pm_model.specs.declared.requests.Review.{Review};
 ghost use Rattle.pm_model.specs.declared.requests.Body.TheVariants as body;
+ghost use Rattle.pm_model.specs.declared.reviews.Changed.{Changed};
+ghost use Rattle.pm_model.specs.declared.reviews.Pair.{Pair};
+ghost use Rattle.pm_model.specs.declared.reviews.ReviewOf.{ReviewOf};
 ghost use Rattle.pm_model.specs.declared.sessions.Session.{Session};
 ghost use Rattle.pm_model.specs.declared.sessions.Process.{Process};
-ghost use Rattle.pm_laws.specs.Examples.{staffed, held, made, refused, refused_at_work, refused_at_watch, watching, watch, in_use, wards, ruled, unformed};
-ghost use Rattle.pm_laws.specs.Meaning.{IsMatched, IsJoined, IsPartialOrder, IsInClass, IsNumberOf, ActsFor, ActsForOne, IsGone, GiveNext, IsReached, TellsOnce};
+ghost use Rattle.pm_laws.specs.Examples.{staffed, held, made, refused, refused_at_work, refused_at_watch, watching, watch, refused_at_review, keeping, of_ann, of_chart, in_use, wards, ruled, unformed};
+ghost use Rattle.pm_laws.specs.Meaning.{IsMatched, IsJoined, IsPartialOrder, IsInClass, IsNumberOf, ActsFor, ActsForOne, IsGone, GiveNext, AreAlike, TellLast, IsReached, TellsOnce};
 
 /// What a change makes of a well formed graph is well formed.
 pub fn formed_effect()
@@ -91,7 +96,7 @@ pub fn numbers_live()
 /// What a review that is allowed is of is live.
 #[tactic(auto, using(crate::proofs::Reviewed::review_of_live))]
 pub fn review_of_live()
-    ensures { (G : Graph) (u : ℕ) (q : Option ℕ) (question : Question) (r : Review) → review_ruling G u q question ≡ Ok r → Each (IsLive G.elements) (subjects_of r) }
+    ensures { (G : Graph) (u : ℕ) (q : Option ℕ) (question : Question) (r : Review) → IsWellFormed G → review_ruling G u q question ≡ Ok r → Each (IsLive G.elements) (subjects_of r) }
 {}
 
 /// A review is no entry, whatever its answer: it leaves the state.
@@ -182,7 +187,6 @@ pub fn ruling_named()
 {}
 
 /// The root user is denied no command whose names are found.
-#[tactic(auto, using(crate::proofs::Authority::root_may_all))]
 pub fn root_may_all()
     ensures { (G : Graph) (q : Option ℕ) (c : Command) (d : Change) → resolve G root c ≡ Ok d → ruling G root q c ≡ Ok d }
 {}
@@ -237,6 +241,42 @@ pub fn responses_keep_obligations()
     ensures { (names : EventNames) (version : ℕ) (G H : Graph) (obligations : List Obligation) → responses names version G obligations ≡ Ok H → H.obligations ≡ G.obligations }
 {}
 
+/// Responses neither keep a review nor drop one.
+#[tactic(auto, using(crate::proofs::Responding::responses_keep_reviews))]
+pub fn responses_keep_reviews()
+    ensures { (names : EventNames) (version : ℕ) (G H : Graph) (obligations : List Obligation) → responses names version G obligations ≡ Ok H → H.kept ≡ G.kept }
+{}
+
+/// Each kept review is found by its number, which is below 256, and what it is of is live.
+pub fn kept_reviews_stand()
+    ensures found { (G : Graph) (k : KeptReview) → IsWellFormed G → Contains G.kept k → kept_at G.kept k.number ≡ Some k }
+    ensures stands { (G : Graph) (n : ℕ) (k : KeptReview) → IsWellFormed G → kept_at G.kept n ≡ Some k → (k.number ≡ n) × (n < 256) × IsLive G.elements (subject k.of) }
+{}
+
+/// A review takes a number below 256 that no kept review has, and is found by it. Once it is dropped the number finds none.
+pub fn numbers_of_reviews()
+    ensures kept { (G H : Graph) (of : ReviewOf ℕ) → IsWellFormed G → effect G (Keep of) ≡ Ok H → (unkept G.kept < 256) × (kept_at G.kept (unkept G.kept) ≡ None) × (kept_at H.kept (unkept G.kept) ≡ Some (new_review (unkept G.kept) of)) }
+    ensures dropped { (G H : Graph) (n : ℕ) → effect G (DropReview n) ≡ Ok H → kept_at H.kept n ≡ None }
+{}
+
+/// An entry tells of each review that was kept before what it has changed in its list, where it has changed something.
+pub fn last_changes_told()
+    ensures { (S T : State) (r : Request) → IsWellFormed S.graph → (answer S r).next ≡ Some T → TellLast S T }
+{}
+
+/// An entry tells no last change where no review was kept before it, and where it leaves the elements, the assignments, the
+/// associations and the prohibitions as they are.
+#[tactic(auto, using(crate::proofs::KeptReviews::with_changes_none, crate::proofs::LastChanges::with_changes_alike))]
+pub fn nothing_changed()
+    ensures unkept { (G H : Graph) (version : ℕ) → G.kept ≡ [] → with_changes G version H ≡ H }
+    ensures alike { (G H : Graph) (version : ℕ) → AreAlike G H → with_changes G version H ≡ H }
+{}
+
+/// A change that is told between two lists is that of some number, and none is left out.
+pub fn changes_told()
+    ensures { (was is : ℕ → List ℕ) (old new : List Pair) (c : Changed) → Contains (changes_between was is old new) c ↔ ((n : ℕ) × Contains (changes_at was is old new n) c) }
+{}
+
 /// Changes of small graphs, and what they make.
 #[tactic(auto, using(crate::proofs::Computed::examples_made))]
 pub fn examples_made()
@@ -244,11 +284,12 @@ pub fn examples_made()
 {}
 
 /// Changes of small graphs, and why they are refused.
-#[tactic(auto, using(crate::proofs::Computed::examples_refused, crate::proofs::Computed::examples_refused_at_work, crate::proofs::Computed::examples_refused_at_watch, crate::proofs::Computed::examples_in_use))]
+#[tactic(auto, using(crate::proofs::Computed::examples_refused, crate::proofs::Computed::examples_refused_at_work, crate::proofs::Computed::examples_refused_at_watch, crate::proofs::Computed::examples_refused_at_review, crate::proofs::Computed::examples_in_use))]
 pub fn examples_refused()
     ensures staffed { Each (λ row. effect staffed row.0 ≡ Err row.1) refused }
     ensures at_work { Each (λ row. effect held row.0 ≡ Err row.1) refused_at_work }
     ensures at_watch { Each (λ row. effect (watching (watch ∷ [])) row.0 ≡ Err row.1) refused_at_watch }
+    ensures at_review { Each (λ row. effect (keeping (of_ann ∷ of_chart ∷ [])) row.0 ≡ Err row.1) refused_at_review }
     ensures in_use { Each (λ G. effect G (Delete 4) ≡ Err InUse) in_use }
 {}
 

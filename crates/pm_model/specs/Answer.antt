@@ -24,6 +24,7 @@ use Rattle.pm_model.specs.Made.{made_by, shown_of}
 use Rattle.pm_model.specs.Sessions.{user_of}
 use Rattle.pm_model.specs.Authority.{denial_in, ruling}
 use Rattle.pm_model.specs.Reviews.{review_ruling, reviewed}
+use Rattle.pm_model.specs.LastChanges.{with_changes}
 use Rattle.pm_model.specs.RightSet.{bit_named, is_access_right}
 use Rattle.pm_model.specs.declared.replies.Table.TheVariants.{History}
 use Rattle.pm_model.specs.declared.replies.Reply.{Reply}
@@ -44,9 +45,10 @@ abbrev pub responded : State → Option Event → List Obligation → Graph → 
 responded S None obligations G = Ok G
 responded S (Some e) obligations G = responses (names_in S.graph e) (S.version + 1) G obligations
 
--- the new graph with the version one higher, or why the responses stopped
+-- the new graph with the last changes of its kept reviews, and the version one higher; or why the responses stopped
 abbrev pub settled : State → Reply → Result Graph Stopped → Answer
-settled S reply (Ok G) = record { reply = reply; next = Some (record { graph = G; version = S.version + 1 }) }
+settled S reply (Ok G) =
+    record { reply = reply; next = Some (record { graph = with_changes S.graph (S.version + 1) G; version = S.version + 1 }) }
 settled S reply (Err stop) = told (ResponseRefused stop.obligation stop.action stop.why)
 
 -- the request's own effect and then the responses, or the refusal of the effect

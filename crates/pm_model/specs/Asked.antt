@@ -5,7 +5,7 @@ use Rattle.std.specs.Str.{is_utf8}
 use Rattle.serde_json.specs.Data.{Data}
 use Rattle.serde_json.specs.Read.{read}
 use Rattle.serde_json.specs.Find.{as_str}
-use Rattle.pm_model.specs.Forms.{name_form, whole_form, short_form, rights_form, listed_form, list_form, if_few_beside, mode_form, subject_form, looking}
+use Rattle.pm_model.specs.Forms.{name_form, whole_form, short_form, rights_form, listed_form, kind_form, list_form, if_few_beside, mode_form, subject_form, looking}
 use Rattle.pm_model.specs.ResponseForms.{do_form, when_form}
 use Rattle.pm_model.specs.declared.actions.Action.{Action}
 use Rattle.pm_model.specs.declared.events.When.{When}
@@ -22,6 +22,7 @@ use Rattle.pm_model.specs.declared.requests.Command.{Command}
 use Rattle.pm_model.specs.declared.requests.Command.TheVariants as command
 use Rattle.pm_model.specs.declared.prohibitions.Mode.{Mode}
 use Rattle.pm_model.specs.declared.prohibitions.Subject.{Subject}
+use Rattle.pm_model.specs.declared.reviews.ReviewOf.{ReviewOf}
 use Rattle.pm_model.specs.declared.requests.Question.{Question}
 use Rattle.pm_model.specs.declared.requests.Question.TheVariants as question
 use Rattle.pm_model.specs.declared.requests.Body.{Body}
@@ -150,6 +151,15 @@ module _ (look : List ℕ → Option Data) where
   abbrev pub withdraw_of : Result Command BadLine
   withdraw_of = and_then (name_at key.Name) (λ name. Ok (command.Withdraw name))
 
+  abbrev pub kind_at : Result (List ℕ → ReviewOf (List ℕ)) BadLine
+  kind_at = required key.Kind (option_and_then kind_form (look (key_text key.Kind)))
+
+  abbrev pub keep_of : Result Command BadLine
+  keep_of = and_then kind_at (λ kind. and_then (name_at key.Of) (λ name. Ok (command.Keep (kind name))))
+
+  abbrev pub drop_review_of : Result Command BadLine
+  drop_review_of = and_then (number_at key.Review) (λ review. Ok (command.DropReview review))
+
   abbrev pub access_of : Result Body BadLine
   access_of =
       and_then process_of (λ process.
@@ -171,6 +181,12 @@ module _ (look : List ℕ → Option Data) where
 
   abbrev pub survey_of : Result Question BadLine
   survey_of = and_then users_at (λ users. Ok (question.Survey users))
+
+  abbrev pub kept_of : Result Question BadLine
+  kept_of = and_then (number_at key.Review) (λ review. Ok (question.Kept review))
+
+  abbrev pub changes_of : Result Question BadLine
+  changes_of = and_then (number_at key.Review) (λ review. Ok (question.Changes review))
 
   abbrev pub review_of : Result Question BadLine → Result Body BadLine
   review_of asks = and_then process_of (λ process. and_then asks (λ q. Ok (body.Review process q)))
@@ -198,11 +214,15 @@ module _ (look : List ℕ → Option Data) where
       else (if bytes_eq w (word_text word.DefineRight) then Some (admin_of define_right_of)
       else (if bytes_eq w (word_text word.Oblige) then Some (admin_of oblige_of)
       else (if bytes_eq w (word_text word.Withdraw) then Some (admin_of withdraw_of)
+      else (if bytes_eq w (word_text word.Keep) then Some (admin_of keep_of)
+      else (if bytes_eq w (word_text word.DropReview) then Some (admin_of drop_review_of)
       else (if bytes_eq w (word_text word.Access) then Some access_of
       else (if bytes_eq w (word_text word.Caps) then Some (review_of caps_of)
       else (if bytes_eq w (word_text word.Entries) then Some (review_of entries_of)
       else (if bytes_eq w (word_text word.Survey) then Some (review_of survey_of)
-      else None)))))))))))))))))))))))
+      else (if bytes_eq w (word_text word.Kept) then Some (review_of kept_of)
+      else (if bytes_eq w (word_text word.Changes) then Some (review_of changes_of)
+      else None)))))))))))))))))))))))))))
 
   -- `id`, `after`, then the fields of the row
   abbrev pub with_head : Result Body BadLine → Result Request BadLine

@@ -10,11 +10,12 @@ use Rattle.pm_model.specs.Decision.{lacking, forbidding}
 use Rattle.pm_model.specs.Resolve.{resolve}
 use Rattle.pm_model.specs.declared.elements.Kind.{Kind}
 use Rattle.pm_model.specs.declared.elements.Kind.TheVariants.{User, Ua, Object, Oa, Pc}
+use Rattle.pm_model.specs.KeptReviews.{KeptReview, kept_at, subject}
 use Rattle.pm_model.specs.declared.events.Pattern.{Pattern}
 use Rattle.pm_model.specs.declared.obligations.Obligation.{Obligation}
 use Rattle.pm_model.specs.declared.prohibitions.Prohibition.{Prohibition}
 use Rattle.pm_model.specs.declared.prohibitions.Subject.{Subject}
-use Rattle.pm_model.specs.declared.prohibitions.Subject.TheVariants as subject
+use Rattle.pm_model.specs.declared.prohibitions.Subject.TheVariants as acting
 use Rattle.pm_model.specs.declared.requests.Command.{Command}
 use Rattle.pm_model.specs.declared.requests.Change.{Change}
 use Rattle.pm_model.specs.declared.requests.Change.TheVariants as change
@@ -74,9 +75,9 @@ pm = 0
 
 -- the element that a subject means: where it is a process, the user for whom it acts
 abbrev pub subject_element : Graph → Subject ℕ ℕ → ℕ
-subject_element G (subject.User n) = n
-subject_element G (subject.Ua n) = n
-subject_element G (subject.Process n) = unwrap_or (user_of G.procs n) 0
+subject_element G (acting.User n) = n
+subject_element G (acting.Ua n) = n
+subject_element G (acting.Process n) = unwrap_or (user_of G.procs n) 0
 
 abbrev pub prohibited_at : Graph → Option Prohibition → List (ℕ × ℕ)
 prohibited_at G None = []
@@ -93,6 +94,11 @@ abbrev pub obliged_at : Option Obligation → List (ℕ × ℕ)
 obliged_at None = []
 obliged_at (Some o) = watched_at o.pattern
 
+-- to review what a kept review is of
+abbrev pub kept_of : Option KeptReview → List (ℕ × ℕ)
+kept_of None = []
+kept_of (Some k) = (to_review, subject k.of) ∷ []
+
 -- each a right and an element
 abbrev pub required : Graph → Change → List (ℕ × ℕ)
 required G (change.Create id kind name None) = (right_to_create kind, pm) ∷ []
@@ -107,6 +113,8 @@ required G (change.Lift i) = prohibited_at G (slice_get G.prohibitions i)
 required G (change.Oblige o) = watched_at o.pattern
 required G (change.Withdraw i) = obliged_at (slice_get G.obligations i)
 required G (change.DefineRight name) = (right_to_create Pc, pm) ∷ []
+required G (change.Keep of) = (to_review, subject of) ∷ []
+required G (change.DropReview n) = kept_of (kept_at G.kept n)
 required G _ = []
 
 -- the elements that a review is of
@@ -114,6 +122,8 @@ abbrev pub subjects_of : Review → List ℕ
 subjects_of (review.Caps u) = u ∷ []
 subjects_of (review.Entries e) = e ∷ []
 subjects_of (review.Survey us) = us
+subjects_of (review.Kept of) = subject of ∷ []
+subjects_of (review.Changes n of) = subject of ∷ []
 
 -- what it asks for: to review each of them
 abbrev pub required_by : Review → List (ℕ × ℕ)

@@ -8,6 +8,7 @@ use Rattle.pm_model.specs.State.{Graph, element, element_at, is_named, is_number
 use Rattle.pm_model.specs.Containment.{contained}
 use Rattle.pm_model.specs.Prohibitions.{prohibit_checks, without_processes, names_element}
 use Rattle.pm_model.specs.Obligations.{oblige_checks, concerns}
+use Rattle.pm_model.specs.KeptReviews.{keep_checks, new_review, reviews, unkept, with_review, without_review}
 use Rattle.pm_model.specs.RightSet.{define_checks}
 use Rattle.pm_model.specs.declared.prohibitions.Prohibition.{Prohibition}
 use Rattle.pm_model.specs.declared.prohibitions.Subject.{Subject}
@@ -22,6 +23,8 @@ use Rattle.pm_model.specs.declared.rights.Association.{Association}
 use Rattle.pm_model.specs.declared.replies.Refusal.{Refusal}
 use Rattle.pm_model.specs.declared.replies.Refusal.TheVariants.{BadKinds, NameTaken, Already, Absent, Cycle, Occupied, InUse, LastContainer, Builtin, Full}
 use Rattle.pm_model.specs.declared.replies.Table.TheVariants.{Elements, Assignments, Associations}
+use Rattle.pm_model.specs.declared.reviews.ReviewOf.{ReviewOf}
+use Rattle.pm_model.specs.declared.reviews.ReviewOf.TheVariants as of
 use Rattle.pm_model.specs.declared.replies.ChangeError.{ChangeError}
 use Rattle.pm_model.specs.declared.replies.ChangeError.TheVariants.{Refused, Memory}
 
@@ -104,6 +107,11 @@ abbrev pub may_create : List Element → Kind → Option ℕ → Bool
 may_create es kind None = true
 may_create es kind (Some into) = both may_assign (Some (element 0 kind [])) (element_at es into)
 
+-- the capabilities are those of a user; the entries may be those of any element
+abbrev pub may_keep : List Element → ReviewOf ℕ → Bool
+may_keep es (of.Caps u) = has_kind is_user_kind (element_at es u)
+may_keep es (of.Entries e) = true
+
 -- ---- lists
 
 -- the list with this element at its place by number
@@ -154,11 +162,11 @@ has_child pairs y = list_any (is_to y) pairs
 abbrev pub has_end : ℕ → Association → Bool
 has_end id a = a.ua == id || a.at == id
 
--- an association, a prohibition, an obligation or a session names the element
+-- an association, a prohibition, an obligation or a session names the element, or a kept review is of it
 abbrev pub is_in_use : Graph → ℕ → Bool
 is_in_use G id =
     list_any (has_end id) G.associations || list_any (names_element id) G.prohibitions
-    || list_any (concerns id) G.obligations || list_any (is_session_of id) G.procs.sessions
+    || list_any (concerns id) G.obligations || list_any (is_session_of id) G.procs.sessions || list_any (reviews id) G.kept
 
 -- ---- preconditions in order: when each isn't met, and what is answered then
 
@@ -207,6 +215,8 @@ checks G (change.Lift i) = []
 checks G (change.Oblige o) = (not (may_watch G.elements o.pattern.user), BadKinds) ∷ oblige_checks G.obligations o
 checks G (change.Withdraw i) = []
 checks G (change.DefineRight name) = define_checks G.rights name
+checks G (change.Keep of) = (not (may_keep G.elements of), BadKinds) ∷ keep_checks G.kept of
+checks G (change.DropReview n) = []
 
 -- ---- effects
 
@@ -233,6 +243,8 @@ changed G (change.Lift i) = record G { prohibitions = remove G.prohibitions i }
 changed G (change.Oblige o) = record G { obligations = G.obligations ++ o ∷ [] }
 changed G (change.Withdraw i) = record G { obligations = remove G.obligations i }
 changed G (change.DefineRight name) = record G { rights = G.rights ++ name ∷ [] }
+changed G (change.Keep of) = record G { kept = with_review (new_review (unkept G.kept) of) G.kept }
+changed G (change.DropReview n) = record G { kept = without_review n G.kept }
 
 abbrev pub refusal : Graph → Change → Option Refusal
 refusal G change = first_of (checks G change)

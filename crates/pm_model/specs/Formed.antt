@@ -9,7 +9,7 @@ use Rattle.pm_model.specs.State.{is_class, Graph, element_at, is_named, root, op
 use Rattle.pm_model.specs.Sessions.{Procs, session, process, session_at, process_at, max_sessions, max_processes}
 use Rattle.pm_model.specs.declared.sessions.Session.{Session}
 use Rattle.pm_model.specs.declared.sessions.Process.{Process}
-use Rattle.pm_model.specs.Effect.{both, has_kind, is_user_kind, may_watch, may_assign, is_pair, may_associate, joins, max_elements, max_assignments, max_associations}
+use Rattle.pm_model.specs.Effect.{both, has_kind, is_user_kind, may_keep, may_watch, may_assign, is_pair, may_associate, joins, max_elements, max_assignments, max_associations}
 use Rattle.pm_model.specs.Resolve.{unused}
 use Rattle.pm_model.specs.declared.elements.Kind.TheVariants.{Pc}
 use Rattle.pm_model.specs.declared.elements.Element.{Element}
@@ -17,10 +17,11 @@ use Rattle.pm_model.specs.declared.requests.Change.{Change}
 use Rattle.pm_model.specs.declared.requests.Change.TheVariants as change
 use Rattle.pm_model.specs.Prohibitions.{is_called, has_empty_range, max_prohibitions}
 use Rattle.pm_model.specs.Obligations as obliged
+use Rattle.pm_model.specs.KeptReviews.{KeptReview, is_kept_of, kept_at, max_reviews, subject}
 use Rattle.pm_model.specs.declared.obligations.Obligation.{Obligation}
 use Rattle.pm_model.specs.declared.prohibitions.Prohibition.{Prohibition}
 use Rattle.pm_model.specs.declared.prohibitions.Subject.{Subject}
-use Rattle.pm_model.specs.declared.prohibitions.Subject.TheVariants as subject
+use Rattle.pm_model.specs.declared.prohibitions.Subject.TheVariants as acting
 
 -- the fact holds of each item
 abbrev pub Each : {X : Type 0} → (X → Type 0) → List X → Type 0
@@ -134,9 +135,9 @@ AreOnceCalled (p ∷ ps) = (list_any (is_called p.name) ps ≡ false) × AreOnce
 
 -- the subject is live
 abbrev pub IsSubjectLive : List Element → Procs → Subject ℕ ℕ → Type 0
-IsSubjectLive es P (subject.User n) = IsLive es n
-IsSubjectLive es P (subject.Ua n) = IsLive es n
-IsSubjectLive es P (subject.Process n) = IsSome (process_at P n)
+IsSubjectLive es P (acting.User n) = IsLive es n
+IsSubjectLive es P (acting.Ua n) = IsLive es n
+IsSubjectLive es P (acting.Process n) = IsSome (process_at P n)
 
 -- what the prohibition names is live, each of its rights has a name, and its sets aren't both empty
 pub record IsProhibition (es : List Element) (P : Procs) (rights : List (List ℕ)) (p : Prohibition) : Type 0 where
@@ -168,6 +169,24 @@ pub record AreObligations (es : List Element) (os : List Obligation) : Type 0 wh
   pub once : AreOnceObliged os
   pub each : Each (IsObligation es) os
   pub few : length os ≤ obliged.max_obligations
+
+-- ---- kept reviews
+
+-- no two are of the same
+abbrev pub AreOnceKept : List KeptReview → Type 0
+AreOnceKept [] = Unit {0}
+AreOnceKept (k ∷ ks) = (list_any (is_kept_of k.of) ks ≡ false) × AreOnceKept ks
+
+-- it is of a live element, the capabilities of a user
+pub record IsKeptReview (es : List Element) (k : KeptReview) : Type 0 where
+  pub live : IsLive es (subject k.of)
+  pub kinds : may_keep es k.of ≡ true
+
+pub record AreKept (es : List Element) (ks : List KeptReview) : Type 0 where
+  pub numbered : RiseBelow 0 (map (λ (k : KeptReview). k.number) ks) max_reviews
+  pub once : AreOnceKept ks
+  pub each : Each (IsKeptReview es) ks
+  pub few : length ks ≤ max_reviews
 
 -- ---- rights
 
@@ -203,6 +222,7 @@ pub record IsWellFormed (G : Graph) : Type 0 where
   pub obligations : AreObligations G.elements G.obligations
   pub rights : AreRights G.rights
   pub procs : AreProcs G.elements G.procs
+  pub kept : AreKept G.elements G.kept
   pub opening : HasOpening G.elements G.assigned
 
 -- numbers of sessions and processes are of 32 bits
@@ -229,3 +249,5 @@ IsNamed G (change.Lift i) = i < length G.prohibitions
 IsNamed G (change.Oblige o) = IsUser G.elements o.author × IfSome o.pattern.user (IsLive G.elements) × IfSome o.pattern.target (IsLive G.elements)
 IsNamed G (change.Withdraw i) = i < length G.obligations
 IsNamed G (change.DefineRight name) = Unit {0}
+IsNamed G (change.Keep of) = IsLive G.elements (subject of)
+IsNamed G (change.DropReview n) = IsSome (kept_at G.kept n)

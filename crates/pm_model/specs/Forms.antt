@@ -6,6 +6,8 @@ use Rattle.pm_model.specs.Name.{is_name}
 use Rattle.pm_model.specs.Words.{key_text, word_text}
 use Rattle.pm_model.specs.declared.words.Key.TheVariants as key
 use Rattle.pm_model.specs.declared.words.Word.TheVariants as word
+use Rattle.pm_model.specs.declared.reviews.ReviewOf.{ReviewOf}
+use Rattle.pm_model.specs.declared.reviews.ReviewOf.TheVariants as of
 use Rattle.pm_model.specs.declared.prohibitions.Mode.{Mode}
 use Rattle.pm_model.specs.declared.prohibitions.Mode.TheVariants as mode
 use Rattle.pm_model.specs.declared.prohibitions.Subject.{Subject}
@@ -71,6 +73,14 @@ mode_of w = if bytes_eq w (word_text word.All) then Some mode.All else (if bytes
 
 abbrev pub mode_form : Data → Option Mode
 mode_form d = option_and_then mode_of (as_str d)
+
+-- what may be kept: the word of the review, with what it is of
+abbrev pub kind_of : List ℕ → Option (List ℕ → ReviewOf (List ℕ))
+kind_of w =
+    if bytes_eq w (word_text word.Caps) then Some of.Caps else (if bytes_eq w (word_text word.Entries) then Some of.Entries else None)
+
+abbrev pub kind_form : Data → Option (List ℕ → ReviewOf (List ℕ))
+kind_form d = option_and_then kind_of (as_str d)
 
 -- exactly one of the keys `user`, `ua` and `process` is there, with these forms of an element and a process
 module _ {N P : Type 0} (element : Data → Option N) (process : Data → Option P) where

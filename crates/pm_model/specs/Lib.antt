@@ -10,6 +10,8 @@ pub mod Events
 pub mod Formed
 pub mod Forms
 pub mod History
+pub mod KeptReviews
+pub mod LastChanges
 pub mod Lines
 pub mod Made
 pub mod Name

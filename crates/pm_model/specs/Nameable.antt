@@ -6,7 +6,7 @@ use Rattle.pm_model.specs.declared.replies.Reason.TheVariants.{Class, Prohibitio
 use Rattle.pm_model.specs.declared.replies.Refusal.{Refusal}
 use Rattle.pm_model.specs.declared.replies.Refusal.TheVariants.{Denied}
 use Rattle.pm_model.specs.declared.replies.Reply.{Reply}
-use Rattle.pm_model.specs.declared.replies.Reply.TheVariants.{Caps, Entries, Survey, Refused}
+use Rattle.pm_model.specs.declared.replies.Reply.TheVariants.{Caps, Entries, Survey, Kept, Refused}
 use Rattle.pm_model.specs.declared.reviews.Pair.{Pair}
 
 abbrev pub IsReasonNameable : (ℕ → Bool) → Reason → Type 0
@@ -25,5 +25,6 @@ abbrev pub IsNameable : (ℕ → Bool) → Reply → Type 0
 IsNameable named (Caps list) = ArePairsNameable named list
 IsNameable named (Entries list) = ArePairsNameable named list
 IsNameable named (Survey users counts) = Each (λ u. IsTrue (named u)) users
+IsNameable named (Kept list) = ArePairsNameable named list
 IsNameable named (Refused why) = IsRefusalNameable named why
 IsNameable named _ = Unit {0}

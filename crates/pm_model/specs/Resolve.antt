@@ -19,6 +19,7 @@ use Rattle.pm_model.specs.Sessions.{is_process}
 use Rattle.pm_model.specs.Operations.{is_operation}
 use Rattle.pm_model.specs.Obligations as obliged
 use Rattle.pm_model.specs.Prohibitions.{place_called}
+use Rattle.pm_model.specs.KeptReviews.{KeptReview, kept_at}
 use Rattle.pm_model.specs.declared.actions.Action.{Action}
 use Rattle.pm_model.specs.declared.events.Pattern.{Pattern}
 use Rattle.pm_model.specs.declared.events.When.{When}
@@ -27,8 +28,10 @@ use Rattle.pm_model.specs.declared.prohibitions.Prohibition.{Prohibition}
 use Rattle.pm_model.specs.declared.prohibitions.Mode.{Mode}
 use Rattle.pm_model.specs.declared.prohibitions.Subject.{Subject}
 use Rattle.pm_model.specs.declared.prohibitions.Subject.TheVariants.{User, Ua, Process}
+use Rattle.pm_model.specs.declared.reviews.ReviewOf.{ReviewOf}
+use Rattle.pm_model.specs.declared.reviews.ReviewOf.TheVariants as of
 use Rattle.pm_model.specs.declared.replies.Refusal.{Refusal}
-use Rattle.pm_model.specs.declared.replies.Refusal.TheVariants.{UnknownName, UnknownProcess}
+use Rattle.pm_model.specs.declared.replies.Refusal.TheVariants.{UnknownName, UnknownProcess, UnknownReview}
 
 -- the least number from n on that no element of this rising list has
 abbrev pub unused_from : ℕ → List Element → ℕ
@@ -87,6 +90,17 @@ look_up_when G when =
     and_then (look_up_operation G when.on) (λ on. and_then (look_up_if G when.user) (λ user.
     and_then (look_up_if G when.target) (λ target. Ok (record { on = on; user = user; target = target }))))
 
+-- what the kept review of a number is of
+abbrev pub look_up_review : Graph → ℕ → Result (ReviewOf ℕ) Refusal
+look_up_review G n = known_review (kept_at G.kept n) where
+  known_review : Option KeptReview → Result (ReviewOf ℕ) Refusal
+  known_review None = Err UnknownReview
+  known_review (Some k) = Ok k.of
+
+abbrev pub look_up_of : Graph → ReviewOf (List ℕ) → Result (ReviewOf ℕ) Refusal
+look_up_of G (of.Caps name) = and_then (look_up G name) (λ n. Ok (of.Caps n))
+look_up_of G (of.Entries name) = and_then (look_up G name) (λ n. Ok (of.Entries n))
+
 abbrev pub obligation : List ℕ → ℕ → Pattern → List Action → Obligation
 obligation name author pattern response = record { name = name; author = author; pattern = pattern; response = response }
 
@@ -107,8 +121,12 @@ resolve G u (command.Lift name) = and_then (known name (place_called G.prohibiti
 resolve G u (command.DefineRight name) = Ok (change.DefineRight name)
 resolve G u (command.Oblige name when response) = and_then (look_up_when G when) (λ pattern. Ok (change.Oblige (obligation name u pattern response)))
 resolve G u (command.Withdraw name) = and_then (known name (obliged.place_called G.obligations name)) (λ i. Ok (change.Withdraw i))
+resolve G u (command.Keep of) = and_then (look_up_of G of) (λ r. Ok (change.Keep r))
+resolve G u (command.DropReview n) = and_then (look_up_review G n) (λ of. Ok (change.DropReview n))
 
 abbrev pub resolve_question : Graph → Question → Result Review Refusal
 resolve_question G (question.Caps user) = and_then (look_up G user) (λ u. Ok (review.Caps u))
 resolve_question G (question.Entries element) = and_then (look_up G element) (λ e. Ok (review.Entries e))
 resolve_question G (question.Survey users) = and_then (look_up_all G users) (λ us. Ok (review.Survey us))
+resolve_question G (question.Kept n) = and_then (look_up_review G n) (λ of. Ok (review.Kept of))
+resolve_question G (question.Changes n) = and_then (look_up_review G n) (λ of. Ok (review.Changes n of))

@@ -1,13 +1,14 @@
 -- Reviews: what a user may do, who may do something to an element, and how much each of several users may do. Source: the
 -- report's capabilities of a user and access entries of an element; the order of the lists, the survey and whoever may ask
 -- are the project's own.
-use Rattle.std.specs.Prelude.{ℕ, Bool, not, ◌==◌, List, [], ◌∷◌, map, filter, count_ones, Option, Result}
+use Rattle.std.specs.Prelude.{ℕ, Bool, not, ◌==◌, List, [], ◌∷◌, map, filter, count_ones, Option, None, Some, Result}
 use Rattle.std.specs.List.{list_all, sum_by}
 use Rattle.pm_model.specs.Results.{and_then, first_of, unless}
 use Rattle.pm_model.specs.Authority.{first_denied, required_by}
 use Rattle.pm_model.specs.Containment.{contained}
 use Rattle.pm_model.specs.Decision.{rights_on}
 use Rattle.pm_model.specs.Effect.{is_user_kind, has_kind}
+use Rattle.pm_model.specs.KeptReviews.{KeptReview, kept_at}
 use Rattle.pm_model.specs.Resolve.{resolve_question}
 use Rattle.pm_model.specs.State.{Graph, element_at, classes_in}
 use Rattle.pm_model.specs.declared.elements.Element.{Element}
@@ -17,8 +18,10 @@ use Rattle.pm_model.specs.declared.replies.Reply.{Reply}
 use Rattle.pm_model.specs.declared.replies.Reply.TheVariants as reply
 use Rattle.pm_model.specs.declared.requests.Question.{Question}
 use Rattle.pm_model.specs.declared.requests.Review.{Review}
-use Rattle.pm_model.specs.declared.requests.Review.TheVariants.{Caps, Entries, Survey}
+use Rattle.pm_model.specs.declared.requests.Review.TheVariants.{Caps, Entries, Survey, Kept, Changes}
 use Rattle.pm_model.specs.declared.reviews.Pair.{Pair}
+use Rattle.pm_model.specs.declared.reviews.ReviewOf.{ReviewOf}
+use Rattle.pm_model.specs.declared.reviews.ReviewOf.TheVariants as of
 
 abbrev pub pair : ℕ → ℕ → Pair
 pair n rights = record { element = n; rights = rights }
@@ -62,11 +65,23 @@ is_user e = is_user_kind e.kind
 abbrev pub users_in : List Element → List ℕ
 users_in es = numbers_in (filter is_user es)
 
+-- the list of a review that may be kept: it is what the review would answer now
+abbrev pub list_of : Graph → ReviewOf ℕ → List Pair
+list_of G (of.Caps u) = capabilities (rights_in G) (numbers_in G.elements) u
+list_of G (of.Entries e) = entries (rights_in G) (users_in G.elements) e
+
+-- the last change of a kept review
+abbrev pub last_change : Option KeptReview → Reply
+last_change None = reply.Changes 0 []
+last_change (Some k) = reply.Changes k.at k.changed
+
 -- what is answered
 abbrev pub reviewed : Graph → Review → Reply
-reviewed G (Caps u) = reply.Caps (capabilities (rights_in G) (numbers_in G.elements) u)
-reviewed G (Entries e) = reply.Entries (entries (rights_in G) (users_in G.elements) e)
+reviewed G (Caps u) = reply.Caps (list_of G (of.Caps u))
+reviewed G (Entries e) = reply.Entries (list_of G (of.Entries e))
 reviewed G (Survey us) = reply.Survey us (survey (rights_in G) (numbers_in G.elements) us)
+reviewed G (Kept of) = reply.Kept (list_of G of)
+reviewed G (Changes n of) = last_change (kept_at G.kept n)
 
 -- ---- who may ask
 
@@ -76,8 +91,8 @@ is_user_at es n = has_kind is_user_kind (element_at es n)
 -- what isn't met once the capabilities are allowed: what is asked for are the rights of users
 abbrev pub review_checks : Graph → Review → List (Bool × Refusal)
 review_checks G (Caps u) = (not (is_user_at G.elements u), BadKinds) ∷ []
-review_checks G (Entries e) = []
 review_checks G (Survey us) = (not (list_all (is_user_at G.elements) us), BadKinds) ∷ []
+review_checks G _ = []
 
 -- the review, where each capability that it asks for is allowed and it is of users
 abbrev pub permitted_review : Graph → ℕ → Option ℕ → Review → Result Review Refusal

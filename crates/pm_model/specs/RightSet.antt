@@ -35,7 +35,7 @@ opening_rights =
 abbrev pub max_rights : ℕ
 max_rights = 64
 
--- the commands, also those that are yet to come
+-- the commands
 unfoldable pub commands : List Word
 commands =
     word.Version ∷ word.OpenSession ∷ word.CloseSession ∷ word.StartProcess ∷ word.EndProcess ∷ word.CreatePc

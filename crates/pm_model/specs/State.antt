@@ -7,6 +7,7 @@ use Rattle.pm_model.specs.declared.elements.Element.{Element}
 use Rattle.pm_model.specs.declared.rights.Association.{Association}
 use Rattle.pm_model.specs.declared.prohibitions.Prohibition.{Prohibition}
 use Rattle.pm_model.specs.declared.obligations.Obligation.{Obligation}
+use Rattle.pm_model.specs.KeptReviews.{KeptReview}
 use Rattle.pm_model.specs.RightSet.{opening_rights}
 use Rattle.pm_model.specs.Sessions.{Procs, opening_procs}
 
@@ -26,6 +27,8 @@ pub record Graph : Type 0 where
   pub rights : List (List ℕ)
   -- the sessions and their processes
   pub procs : Procs
+  -- the kept reviews, by rising number
+  pub kept : List KeptReview
 
 pub record State : Type 0 where
   pub graph : Graph
@@ -88,6 +91,7 @@ opening_graph =
       obligations = [];
       rights = opening_rights;
       procs = opening_procs root;
+      kept = [];
     }
 
 -- the state at the start: the class `pm`, its administrators, the user `root` among them, and a session and a process of it

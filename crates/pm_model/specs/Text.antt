@@ -14,11 +14,12 @@ use Rattle.pm_model.specs.declared.lines.BadLine.TheVariants.{TooLong, NotJson, 
 use Rattle.pm_model.specs.declared.replies.Refusal.{Refusal}
 use Rattle.pm_model.specs.declared.replies.Refusal.TheVariants as refusal
 use Rattle.pm_model.specs.declared.replies.Table.{Table}
-use Rattle.pm_model.specs.declared.replies.Table.TheVariants.{Elements, Assignments, Associations, Prohibitions, Obligations, Sessions, Processes, Rights, History}
+use Rattle.pm_model.specs.declared.replies.Table.TheVariants.{Elements, Assignments, Associations, Prohibitions, Obligations, Sessions, Processes, Reviews, Rights, History}
 use Rattle.pm_model.specs.declared.replies.Reply.{Reply}
-use Rattle.pm_model.specs.declared.replies.Reply.TheVariants.{Done, Granted, Caps, Entries, Survey, Bad, Ahead, Refused, ResponseRefused, KeepFault}
+use Rattle.pm_model.specs.declared.replies.Reply.TheVariants.{Done, Granted, Caps, Entries, Survey, Kept, Changes, Bad, Ahead, Refused, ResponseRefused, KeepFault}
 use Rattle.pm_model.specs.declared.replies.Reason.{Reason}
 use Rattle.pm_model.specs.declared.replies.Reason.TheVariants.{Class, Prohibition}
+use Rattle.pm_model.specs.declared.reviews.Changed.{Changed}
 use Rattle.pm_model.specs.declared.reviews.Pair.{Pair}
 use Rattle.pm_model.specs.declared.replies.Shown.{Shown}
 use Rattle.pm_model.specs.declared.replies.Shown.TheVariants as shown
@@ -31,6 +32,7 @@ table_word Prohibitions = word.Prohibitions
 table_word Obligations = word.Obligations
 table_word Sessions = word.Sessions
 table_word Processes = word.Processes
+table_word Reviews = word.Reviews
 table_word Rights = word.Rights
 table_word History = word.History
 
@@ -64,9 +66,15 @@ abbrev pub session_shown : Shown → Option ℕ
 session_shown (shown.Session n) = Some n
 session_shown _ = None
 
+abbrev pub review_shown : Shown → Option ℕ
+review_shown (shown.Review n) = Some n
+review_shown _ = None
+
 -- what a request that is accepted has made
 abbrev pub made_front : Shown → List (List ℕ × Option Data)
-made_front made = (key_text key.Process, whole_if (process_shown made)) ∷ (key_text key.Session, whole_if (session_shown made)) ∷ []
+made_front made =
+    (key_text key.Process, whole_if (process_shown made)) ∷ (key_text key.Review, whole_if (review_shown made))
+    ∷ (key_text key.Session, whole_if (session_shown made)) ∷ []
 
 -- a request that is accepted
 abbrev pub done_front : Head → ℕ → Shown → List (List ℕ × Option Data)
@@ -102,6 +110,7 @@ denied_front h names right target reason =
 abbrev pub refusal_front : Head → (ℕ → List ℕ) → Refusal → List (List ℕ × Option Data)
 refusal_front h names refusal.UnknownProcess = no_front h word.UnknownProcess
 refusal_front h names refusal.UnknownSession = no_front h word.UnknownSession
+refusal_front h names refusal.UnknownReview = no_front h word.UnknownReview
 refusal_front h names (refusal.UnknownName name) = unknown_front h name
 refusal_front h names (refusal.Denied right target reason) = denied_front h names right target reason
 refusal_front h names refusal.BadKinds = no_front h word.BadKinds
@@ -120,6 +129,7 @@ refusal_front h names (refusal.Full table) = full_front h table
 abbrev pub refusal_word : Refusal → Word
 refusal_word refusal.UnknownProcess = word.UnknownProcess
 refusal_word refusal.UnknownSession = word.UnknownSession
+refusal_word refusal.UnknownReview = word.UnknownReview
 refusal_word (refusal.UnknownName name) = word.UnknownName
 refusal_word (refusal.Denied right target reason) = word.Denied
 refusal_word refusal.BadKinds = word.BadKinds
@@ -152,6 +162,10 @@ pair_told names p = listed (string (names p.element) ∷ string (rights_text p.r
 abbrev pub count_told : (ℕ → List ℕ) → (ℕ × ℕ) → Data
 count_told names c = listed (string (names c.0) ∷ number (unsigned c.1) ∷ [])
 
+-- a name, and two sets of rights
+abbrev pub change_told : Changed → Data
+change_told c = listed (string c.name ∷ string (rights_text c.old) ∷ string (rights_text c.new) ∷ [])
+
 -- a review that tells who has rights on what
 abbrev pub list_front : Head → (ℕ → List ℕ) → Word → List Pair → List (List ℕ × Option Data)
 list_front h names what list =
@@ -163,6 +177,12 @@ survey_front h names users counts =
     (key_text key.Counts, Some (listed (map (count_told names) (zip users counts)))) ∷ (key_text key.Id, whole_if h.id)
     ∷ (key_text key.Ok, said word.Survey) ∷ []
 
+-- the last change of a kept review
+abbrev pub changes_front : Head → ℕ → List Changed → List (List ℕ × Option Data)
+changes_front h at list =
+    (key_text key.At, whole at) ∷ (key_text key.Id, whole_if h.id) ∷ (key_text key.List, Some (listed (map change_told list)))
+    ∷ (key_text key.Ok, said word.Changes) ∷ []
+
 -- the members before `v`, in alphabetical order
 abbrev pub front : Head → (ℕ → List ℕ) → Reply → List (List ℕ × Option Data)
 front h names (Done fired made) = done_front h fired made
@@ -170,6 +190,8 @@ front h names (Granted fired) = granted_front h fired
 front h names (Caps list) = list_front h names word.Caps list
 front h names (Entries list) = list_front h names word.Entries list
 front h names (Survey users counts) = survey_front h names users counts
+front h names (Kept list) = list_front h names word.Kept list
+front h names (Changes at list) = changes_front h at list
 front h names (Bad bad) = bad_front h bad
 front h names Ahead = no_front h word.Ahead
 front h names (Refused why) = refusal_front h names why

@@ -37,7 +37,7 @@ pub use prohibitions::{Mode, Prohibition, Subject};
 pub use reading::{Bars, Grants, Judge, NameOf, Parents, Reach};
 pub use replies::{ChangeError, Made, Reason, Refusal, Reply, Shown, Table};
 pub use requests::{Asked, Body, Change, Command, Entry, Question, Request, Review, What};
-pub use reviews::{CountList, Pair, PairList};
+pub use reviews::{ChangeList, Changed, CountList, Pair, PairList, ReviewOf};
 pub use rights::{Association, Grant, Grantee, Rights, is_access_right};
 pub use sessions::{Process, Session};
 pub use words::{Key, Word};

@@ -4,7 +4,7 @@ use crate::elements::ElementId;
 use crate::lines::BadLine;
 use crate::lists::UserList;
 use crate::names::Name;
-use crate::reviews::{CountList, PairList};
+use crate::reviews::{ChangeList, CountList, PairList};
 
 /// What has a limit.
 #[derive(Clone, Copy, Debug, PartialEq, Eq)]
@@ -23,6 +23,8 @@ pub enum Table {
     Sessions,
     /// 16,384 live processes.
     Processes,
+    /// 256 kept reviews.
+    Reviews,
     /// 64 rights with a name.
     Rights,
     /// 262,144 accepted entries.
@@ -46,6 +48,8 @@ pub enum Refusal {
     UnknownProcess,
     /// No live session has the number.
     UnknownSession,
+    /// No kept review has the number.
+    UnknownReview,
     /// No live element, no right that is meant there, or no prohibition has the name.
     UnknownName {
         name: Name,
@@ -60,7 +64,7 @@ pub enum Refusal {
     BadKinds,
     /// A live element has the name; or a prohibition or a right has it, where one is to be made.
     NameTaken,
-    /// The assignment, or an association of the pair, stands.
+    /// The assignment, an association of the pair, or a kept review of the same stands.
     Already,
     /// The assignment, or an association of the pair, doesn't stand.
     Absent,
@@ -68,7 +72,7 @@ pub enum Refusal {
     Cycle,
     /// Something is assigned to the element.
     Occupied,
-    /// An association, a prohibition, an obligation or a session names the element.
+    /// An association, a prohibition, an obligation or a session names the element, or a kept review is of it.
     InUse,
     /// It is the element's only container.
     LastContainer,
@@ -87,6 +91,7 @@ pub enum Made {
     Element(ElementId),
     Session(u32),
     Process(u32),
+    Review(u32),
 }
 
 /// What the reply to an accepted command tells beside that.
@@ -97,6 +102,8 @@ pub enum Shown {
     Session(u32),
     /// The number of the process that was started.
     Process(u32),
+    /// The number of the review that is kept.
+    Review(u32),
 }
 
 /// Why a change was not made.
@@ -131,6 +138,17 @@ pub enum Reply {
     Survey {
         users: UserList,
         counts: CountList,
+    },
+    /// What a kept review answers now: as `Caps` or `Entries`.
+    Kept {
+        list: PairList,
+    },
+    /// What the last entry that changed its list changed in a kept review, and the version of that entry: 0, and nothing,
+    /// where none has. By rising number of the elements; where one number has gone from one element to another, the old
+    /// one first.
+    Changes {
+        at: u64,
+        list: ChangeList,
     },
     /// The line is no request.
     Bad(BadLine),

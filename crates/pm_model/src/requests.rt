@@ -10,6 +10,7 @@ use crate::memory::Memory;
 use crate::names::Name;
 use crate::obligations::{Obligation, Response};
 use crate::prohibitions::{Mode, Prohibition, Subject};
+use crate::reviews::ReviewOf;
 use crate::rights::Rights;
 
 /// An administrative command, as a line names it.
@@ -77,6 +78,14 @@ pub enum Command {
     Withdraw {
         name: Name,
     },
+    /// Keep what this review answers, and what each entry changes in it.
+    Keep {
+        of: ReviewOf<Name>,
+    },
+    /// Keep the review of this number no longer.
+    DropReview {
+        review: u32,
+    },
 }
 
 impl Command {
@@ -133,6 +142,8 @@ impl Command {
                 response: response.copy()?,
             },
             Command::Withdraw { name } => Command::Withdraw { name: *name },
+            Command::Keep { of } => Command::Keep { of: *of },
+            Command::DropReview { review } => Command::DropReview { review: *review },
         })
     }
 }
@@ -196,6 +207,12 @@ pub enum Change {
     DefineRight {
         name: Name,
     },
+    Keep {
+        of: ReviewOf<ElementId>,
+    },
+    DropReview {
+        review: u32,
+    },
 }
 
 /// What a review asks, as a line names it.
@@ -207,6 +224,10 @@ pub enum Question {
     Entries { element: Name },
     /// How much each of the users may do, in the order of the list: how many rights on how many elements.
     Survey { users: NameList },
+    /// What the kept review of this number answers.
+    Kept { review: u32 },
+    /// What the last entry that changed it changed in the kept review of this number.
+    Changes { review: u32 },
 }
 
 impl Question {
@@ -220,6 +241,8 @@ impl Question {
             Question::Survey { users } => Question::Survey {
                 users: users.copy()?,
             },
+            Question::Kept { review } => Question::Kept { review: *review },
+            Question::Changes { review } => Question::Changes { review: *review },
         })
     }
 }
@@ -227,9 +250,22 @@ impl Question {
 /// A review: a question with its names resolved to numbers.
 #[derive(Drop)]
 pub enum Review {
-    Caps { user: ElementId },
-    Entries { element: ElementId },
-    Survey { users: UserList },
+    Caps {
+        user: ElementId,
+    },
+    Entries {
+        element: ElementId,
+    },
+    Survey {
+        users: UserList,
+    },
+    Kept {
+        of: ReviewOf<ElementId>,
+    },
+    Changes {
+        review: u32,
+        of: ReviewOf<ElementId>,
+    },
 }
 
 /// What a request asks for.

@@ -1,15 +1,21 @@
 //! Reviews: what a user may do, who may do something to an element, and how much a user may do, over whatever judges
-//! rights.
+//! rights; and what differs between two lists.
 #![tactic(auto)]
 
-ghost use Rattle.std.specs.Prelude.{◌≡◌, ◌<◌, ◌≤◌, ◌+◌, ◌^◌, ◌++◌, ◌∷◌, [], filter, length, count_ones, IfOk, OnOk};
-ghost use Rattle.pm_model.specs.Reviews.{pair, has_some, capabilities, entries, count_held};
+ghost use Rattle.std.specs.Prelude.{◌≡◌, ◌<◌, ◌≤◌, ◌+◌, ◌^◌, ◌++◌, ◌∷◌, [], filter, length, IfOk, OnOk};
+ghost use Rattle.pm_model.specs.Reviews.{pair, has_some, capabilities, entries};
 ghost use Rattle.pm_review.specs.Live.{IsLive, AllLive};
 
+mod differences;
+mod laws;
+mod surveys;
 #[cfg(test)]
 mod tests;
 
+pub use differences::changes;
+pub use laws::lists_rise;
 use pm_model::{ElementId, Judge, Memory, Pair, PairList, PlaceList, Rights, UserList};
+pub use surveys::bulk;
 
 /// Puts the pair at the end of the list, unless its set of rights is empty.
 fn push_some(list: &mut PairList, element: ElementId, rights: Rights) -> Result<(), Memory>
@@ -69,30 +75,4 @@ pub fn entries<J: Judge>(
         push_some(&mut list, *user, rights)?;
     }
     Ok(list)
-}
-
-/// How many rights are in the set.
-fn size(rights: Rights) -> u64
-    ensures size { result ≡ count_ones rights }
-    ensures most { result ≤ 64 }
-{
-    u64::from(rights.0.count_ones())
-}
-
-/// How many pairs of a right and one of the elements the user has. It takes no memory, and asks the judge once for each
-/// element of the list.
-pub fn count_held<J: Judge>(judge: &mut J, elements: &PlaceList, user: ElementId) -> u64
-    requires user { IsLive (J.judgement judge.old) user }
-    requires elements { AllLive (J.judgement judge.old) elements.now }
-    requires few { length elements.now ≤ 2 ^ 32 }
-    requires room { J.asked judge.old + length elements.now < 2 ^ 64 }
-    ensures count { result ≡ count_held (J.judgement judge.old).rights elements.now user }
-    ensures asked { J.asked judge.new ≡ J.asked judge.old + length elements.now }
-    ensures same { J.judgement judge.new ≡ J.judgement judge.old }
-{
-    let mut count = 0;
-    for element in elements.as_slice() {
-        count += size(judge.judge(user, *element));
-    }
-    count
 }

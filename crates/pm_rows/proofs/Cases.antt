@@ -4,6 +4,7 @@ use Rattle.std.proofs.lemmas.Bool.{ne_eqb, lt-ltb, le-ltb}
 use Rattle.std.proofs.lemmas.List.{append_assoc, append-nil}
 use Rattle.std.proofs.lemmas.List.Elements.{Contains-append_right}
 use Rattle.pm_model.specs.Effect.{may_assign, may_associate}
+use Rattle.pm_model.specs.LastChanges.{changes_below}
 use Rattle.pm_model.specs.Name.{is_name, is_name_byte}
 use Rattle.pm_model.specs.Lines.{too_long, event_of, events_from, events, longest_line}
 use Rattle.pm_model.specs.Formed.{Each}
@@ -14,6 +15,7 @@ use Rattle.std.specs.Str.{is_utf8, chars}
 use Rattle.std.specs.Fmt.{digits}
 use Rattle.serde_json.proofs.OnLiterals.{serde_json_on_literals}
 use Rattle.pm_rows.specs.Cases.{kinds, pairs_of, assigned_kinds, associated_kinds, ranges, Covers, bytes_from, name_bytes, IsCutAt}
+use Rattle.pm_rows.specs.KeptReviews.{betweens, Tells}
 
 pub kinds_assigned : filter (λ p. may_assign p.0 p.1) (pairs_of kinds) ≡ assigned_kinds
 kinds_assigned = refl
@@ -23,6 +25,10 @@ kinds_associated = refl
 
 pub ranges_covered : Each Covers ranges
 ranges_covered = (refl, (refl, (refl, (refl, (refl, (refl, (refl, (refl, (refl, (refl, tt))))))))))
+
+pub betweens_told : Each Tells betweens
+unfolding changes_below
+betweens_told = (refl, (refl, (refl, (refl, (refl, (refl, tt))))))
 
 pub bytes_of_names : filter is_name_byte (bytes_from 0 256) ≡ name_bytes
 bytes_of_names = refl

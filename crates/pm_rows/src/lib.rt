@@ -13,6 +13,7 @@ ghost use Rattle.pm_rows.specs.Forms.{form_rows};
 ghost use Rattle.pm_rows.specs.Obligations.{obligation_rows};
 ghost use Rattle.pm_rows.specs.Responses.{Responds, Awaits, responses, awaited};
 ghost use Rattle.pm_rows.specs.Reviews.{review_rows};
+ghost use Rattle.pm_rows.specs.KeptReviews.{kept_rows, betweens, Tells};
 ghost use Rattle.pm_rows.specs.Cases.{kinds, pairs_of, assigned_kinds, associated_kinds, ranges, Covers, bytes_from, name_bytes, IsCutAt};
 
 /// The definitions give each row's replies to its lines.
@@ -38,6 +39,17 @@ pub fn obligations_hold()
 /// They give them in the rows on reviews.
 pub fn reviews_hold()
     ensures { Hold review_rows }
+{}
+
+/// They give them in the rows on kept reviews.
+pub fn kept_reviews_hold()
+    ensures { Hold kept_rows }
+{}
+
+/// What becomes of the elements of two lists, where numbers may have gone from one element to another.
+#[tactic(auto, using(crate::proofs::Cases::betweens_told))]
+pub fn changes_tell()
+    ensures { Each Tells betweens }
 {}
 
 /// What the responses of obligations read as, and what they wait for.

@@ -40,6 +40,8 @@ made-classes G (change.Lift i) f = refl
 made-classes G (change.Oblige o) f = refl
 made-classes G (change.Withdraw i) f = refl
 made-classes G (change.DefineRight name) f = refl
+made-classes G (change.Keep of) f = refl
+made-classes G (change.DropReview n) f = refl
 
 -- the list that a change leaves is the classes of the new graph
 pub classes-kept : (G H : Graph) (c : Change) (old new : List ℕ) → IsWellFormed G → effect G c ≡ Ok H → old ≡ classes_in G.elements →

@@ -1,7 +1,9 @@
--- What every state keeps: the history is legal, and what it leads to is the state. The graph keeps well formed by itself.
+-- What every state keeps: the history is legal, what it leads to is the state, and the lists are those of its kept reviews.
+-- The graph keeps well formed by itself.
 use Rattle.std.specs.Prelude.{◌≡◌}
 use Rattle.pm_model.specs.Answer.{longest_history}
 use Rattle.pm_model.specs.History.{Machine, IsReplayed}
+use Rattle.pm_state.specs.Listing.{AreListed}
 use Rattle.pm_state.specs.declared.state.State.TheInside.{Inside}
 
 abbrev pub machine_of : Inside → Machine
@@ -10,3 +12,4 @@ machine_of s = record { graph = s.graph; history = s.history.entries }
 pub record IsState (s : Inside) : Type 0 where
   pub replayed : IsReplayed (machine_of s)
   pub limit : s.history.limit ≡ longest_history
+  pub listed : AreListed s.lists s.graph

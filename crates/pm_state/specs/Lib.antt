@@ -1,6 +1,10 @@
 pub mod Changes
 pub mod Classes
+pub mod Containing
+pub mod Judging
 pub mod Kept
 pub mod KeptDraft
 pub mod KeptState
+pub mod Listing
+pub mod Repairs
 pub mod Shown

@@ -13,4 +13,5 @@ graph_of t =
       obligations = t.oblig.items;
       rights = t.rights;
       procs = t.procs.procs;
+      kept = t.kept;
     }

@@ -1,22 +1,33 @@
-ghost use Rattle.std.specs.Prelude.{◌≡◌, ◌<◌, ◌≤◌, ◌∷◌, ◌++◌, [], Ok, length, OnOk, OnErr, IfOk, IfErr};
+ghost use Rattle.std.specs.Prelude.{◌≡◌, ◌<◌, ◌≤◌, ◌∷◌, ◌++◌, [], true, Ok, Some, length, slice_get, slice_set, OnOk, IfOk, IfErr};
+ghost use Rattle.std.specs.List.{list_any};
 ghost use Rattle.pm_model.specs.Answer.{longest_history};
 ghost use Rattle.pm_model.specs.Effect.{refusal, effect, IsCause};
 ghost use Rattle.pm_model.specs.Formed.{IsNamed};
 ghost use Rattle.pm_model.specs.History.{IsAnswered, IsLegal};
+ghost use Rattle.pm_model.specs.KeptReviews.{KeptReview, is_kept_of};
 ghost use Rattle.pm_model.specs.Made.{made_by};
+ghost use Rattle.pm_model.specs.Reviews.{list_of};
+ghost use Rattle.pm_state.specs.Listing.{AreListed};
+ghost use Rattle.pm_state.specs.Repairs.{IsLeft};
 
 use crate::graph::Graph;
+use crate::repairs::{repair_of, repaired};
 use crate::state::State;
+use pm_affect::KeptLists;
 use pm_history::{History, HistoryError};
-use pm_model::{Change, ChangeError, Entry, Made};
+use pm_model::{
+    Change, ChangeError, ChangeList, ElementId, Entry, Made, Memory, PairList, ReviewOf,
+};
 use std::marker::Model;
 
 /// A copy of a state in which one change after another is made, to be one entry together or none. A
 /// change to which nothing responds is made in place, by [`State::enter`]; a request to which obligations
-/// respond is made in a draft.
+/// respond, or while reviews are kept, is made in a draft.
 #[derive(Drop)]
 pub struct Draft {
     graph: Graph,
+    /// None once memory was wanting for them.
+    lists: Option<KeptLists>,
     history: History,
 }
 
@@ -33,12 +44,17 @@ impl Model for Draft {
 }
 
 impl Draft {
-    pub(crate) fn begun(graph: Graph, history: History) -> Draft
+    pub(crate) fn begun(graph: Graph, lists: KeptLists, history: History) -> Draft
         requires legal { IsLegal history.entries }
         requires limit { history.limit ≡ longest_history }
+        requires listed { AreListed lists graph }
         ensures { result ≡ record { graph = graph; history = history.entries } }
     {
-        Draft { graph, history }
+        Draft {
+            graph,
+            lists: Some(lists),
+            history,
+        }
     }
 
     /// The graph as it is now.
@@ -48,32 +64,88 @@ impl Draft {
         &self.graph
     }
 
-    /// Makes one change, or tells the first precondition that isn't met. A refusal leaves the draft,
-    /// and so does want of memory.
+    /// The lists of all kept reviews: what each answers in the graph as it is now. `Memory` comes once memory was wanting for them.
+    pub fn lists(&self) -> Result<&KeptLists, Memory>
+        ensures { IfOk result (λ lists. AreListed lists.now self.now.graph) }
+    {
+        match &self.lists {
+            Some(lists) => Ok(lists),
+            None => Err(Memory),
+        }
+    }
+
+    /// The list of a review that is kept: what it answers in the graph as it is now. `Memory` comes where `lists` says so.
+    pub fn list(&self, of: &ReviewOf<ElementId>) -> Result<&PairList, Memory>
+        requires { list_any (is_kept_of of.now) self.now.graph.kept ≡ true }
+        ensures { IfOk result (λ list. list.now ≡ list_of self.now.graph of.now) }
+    {
+        match self.lists()?.list(of) {
+            Some(list) => Ok(list),
+            None => unreachable!(),
+        }
+    }
+
+    /// Makes one change, or tells the first precondition that isn't met. A refusal leaves the draft. After want of memory the
+    /// change may be made and the lists of kept reviews not: then the draft can only be dropped, since each later change, `lists`
+    /// and `finish` want memory too.
+    ///
+    /// While no review is kept it costs what the change does, and a copy of a prohibition that is made or lifted. Else the rights
+    /// of each pair that the change can have changed, and that a kept review is of, are asked for once more, beside what `update`
+    /// of `pm_affect` says; a review that is kept from now on asks for all of its own.
     pub fn change(&mut self, change: &Change) -> Result<Made, ChangeError>
         requires { IsNamed self.old.graph change.now }
         ensures ok { OnOk result (effect self.old.graph change.now ≡ Ok self.new.graph) }
         ensures made { IfOk result (λ m. m ≡ made_by self.old.graph change.now) }
         ensures refused { IfErr result (IsCause (refusal self.old.graph change.now)) }
-        ensures err { OnErr result (self.new ≡ self.old) }
+        ensures err { IfErr result (IsLeft self.old self.new change.now) }
         ensures history { self.new.history ≡ self.old.history }
     {
-        self.graph.change(change)
+        self.graph.formed();
+        let asked = match repair_of(&self.graph, change) {
+            Ok(asked) => asked,
+            Err(Memory) => return Err(ChangeError::Memory),
+        };
+        let made = match self.graph.change(change) {
+            Ok(made) => made,
+            Err(ChangeError::Refused(why)) => return Err(ChangeError::Refused(why)),
+            Err(ChangeError::Memory) => return Err(ChangeError::Memory),
+        };
+        self.lists = repaired(self.lists.take(), &self.graph, asked);
+        match self.lists {
+            Some(_) => Ok(made),
+            None => Err(ChangeError::Memory),
+        }
+    }
+
+    /// Makes this the last change of the kept review at a place. It takes no memory.
+    pub fn set_last(&mut self, place: usize, version: u64, changes: ChangeList)
+        requires { place < length self.old.graph.kept }
+        ensures graph { (k : KeptReview) → slice_get self.old.graph.kept place ≡ Some k → self.new.graph ≡ record self.old.graph { kept = slice_set self.old.graph.kept place (record k { at = version; changed = changes }) } }
+        ensures history { self.new.history ≡ self.old.history }
+    {
+        self.graph.set_last(place, version, changes);
     }
 
     /// The state with this graph, and the entry at the end of the history. The graph must be what the
-    /// machine's answer to the entry makes. `Full` exactly where the history has 262,144 entries.
+    /// machine's answer to the entry makes. `Full` only where the history has 262,144 entries; the other error is `Memory`.
     pub fn finish(self, entry: Entry) -> Result<State, HistoryError>
         requires { IsAnswered self entry.request }
         ensures ok { IfOk result (λ s. s ≡ record { graph = self.graph; history = self.history ++ entry ∷ [] }) }
         ensures room { OnOk result (length self.history < longest_history) }
         ensures full { IfErr result (λ e. e ≡ HistoryError.Full → longest_history ≤ length self.history) }
     {
-        let Draft { graph, mut history } = self;
+        let Draft {
+            graph,
+            lists,
+            mut history,
+        } = self;
+        let Some(lists) = lists else {
+            return Err(HistoryError::Memory);
+        };
         match history.push(entry) {
             Ok(()) => {}
             Err(error) => return Err(error),
         }
-        Ok(State::joined(graph, history))
+        Ok(State::joined(graph, lists, history))
     }
 }

@@ -119,10 +119,10 @@ impl Tables {
     fn is_in_use(&self, id: ElementId) -> bool
         ensures { result ≡ is_in_use (graph_of self.now) id }
     {
-        self.is_in_a_rule(id) || self.procs.has_session(id)
+        self.is_in_a_rule(id) || self.procs.has_session(id) || self.kept.reviews(id)
     }
 
-    /// It looks at each association, prohibition, obligation and session, and may want memory for its row.
+    /// It looks at each association, prohibition, obligation, session and kept review, and may want memory for its row.
     pub(crate) fn delete(&mut self, id: ElementId) -> Result<Made, ChangeError>
         requires { IsNamed (graph_of self.old) (Change.Delete id) }
         ensures { Changes self.old self.new (Change.Delete id) result }

@@ -1,8 +1,9 @@
-ghost use Rattle.std.specs.Prelude.{◌≡◌, ◌<◌, ℕ, IfSome, is_some, slice_get, OnOk, OnErr, IfOk, IfErr, None};
+ghost use Rattle.std.specs.Prelude.{◌≡◌, ◌<◌, ℕ, IfSome, is_some, length, slice_get, slice_set, OnOk, OnErr, IfOk, IfErr, None, Some};
 ghost use Rattle.pm_model.specs.State.{element_at, opening, classes_in};
 ghost use Rattle.pm_model.specs.Decision.{associations_of};
 ghost use Rattle.pm_model.specs.Effect.{refusal, effect, IsCause};
 ghost use Rattle.pm_model.specs.Formed.{IsWellFormed, IsNamed};
+ghost use Rattle.pm_model.specs.KeptReviews.{KeptReview};
 ghost use Rattle.pm_model.specs.Made.{made_by};
 ghost use Rattle.pm_model.specs.RightSet.{bit_named};
 ghost use Rattle.pm_reach.specs.Changes.{TellContainment};
@@ -13,7 +14,8 @@ use pm_assoc::Assoc;
 use pm_deny::Deny;
 use pm_diagram::{Containment, Diagram};
 use pm_elements::Elements;
-use pm_model::{Change, ChangeError, ClassList, ElementId, Made, Memory, Name, NameOf};
+use pm_kept::KeptReviews;
+use pm_model::{Change, ChangeError, ChangeList, ClassList, ElementId, Made, Memory, Name, NameOf};
 use pm_oblig::Obligations;
 use pm_procs::Procs;
 use pm_reach::ReachRows;
@@ -52,6 +54,7 @@ impl Graph {
         let oblig = Obligations::new(alloc);
         let rights = RightNames::opening(alloc)?;
         let procs = Procs::opening(alloc)?;
+        let kept = KeptReviews::new(alloc);
         Ok(Graph {
             tables: Tables {
                 diagram,
@@ -60,6 +63,7 @@ impl Graph {
                 oblig,
                 rights,
                 procs,
+                kept,
                 classes,
             },
         })
@@ -124,6 +128,13 @@ impl Graph {
         &self.tables.procs
     }
 
+    /// The kept reviews, by rising number.
+    pub fn kept(&self) -> &KeptReviews
+        ensures { result.now ≡ self.now.kept }
+    {
+        &self.tables.kept
+    }
+
     /// The bit of the right of a name; None exactly where no right has it.
     pub fn right(&self, name: Name) -> Option<u8>
         ensures value { result ≡ bit_named self.now.rights name }
@@ -184,6 +195,14 @@ impl Graph {
             Err(error) => return Err(error),
         };
         Ok(made)
+    }
+
+    /// Makes this the last change of the kept review at a place. It takes no memory.
+    pub(crate) fn set_last(&mut self, place: usize, version: u64, changes: ChangeList)
+        requires { place < length self.old.kept }
+        ensures { (k : KeptReview) → slice_get self.old.kept place ≡ Some k → self.new ≡ record self.old { kept = slice_set self.old.kept place (record k { at = version; changed = changes }) } }
+    {
+        self.tables.kept.set_last(place, version, changes);
     }
 }
 

@@ -1,19 +1,26 @@
-//! The state of the policy machine: a version of its graph, and the history that led to it.
+//! The state of the policy machine: a version of its graph, the lists of its kept reviews, and the history that led to it.
 #![tactic(auto)]
 
+mod asking;
 mod associations;
 mod classes;
 mod draft;
 mod elements;
 mod graph;
+mod judging;
 mod obligations;
 mod prohibitions;
+mod repairs;
+mod reviews;
 mod sessions;
 mod state;
 mod tables;
 #[cfg(test)]
 mod tests;
 
+pub use asking::{capabilities_of, entries_of, is_user, live_elements, live_users};
 pub use draft::Draft;
 pub use graph::Graph;
+pub use judging::GraphJudge;
+pub use repairs::keeps;
 pub use state::State;

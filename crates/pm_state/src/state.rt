@@ -1,26 +1,35 @@
-ghost use Rattle.std.specs.Prelude.{◌≡◌, ◌<◌, ◌≤◌, ◌∷◌, ◌++◌, [], None, Ok, length, slice_get, OnOk, OnErr, IfOk, IfErr};
+ghost use Rattle.std.specs.Prelude.{◌≡◌, ◌<◌, ◌≤◌, ◌∷◌, ◌++◌, [], false, true, None, Ok, length, slice_get, OnOk, OnErr, IfOk, IfErr};
+ghost use Rattle.std.specs.List.{list_any};
 ghost use Rattle.std.specs.Option.{option_copied};
 ghost use Rattle.pm_model.specs.Effect.{effect, IsCause};
 ghost use Rattle.pm_model.specs.Formed.{IsNamed};
 ghost use Rattle.pm_model.specs.Answer.{entered, longest_history, proposed, refusal_in};
 ghost use Rattle.pm_model.specs.History.{IsReplayed, opening_machine, state_of};
+ghost use Rattle.pm_model.specs.KeptReviews.{is_kept_of};
 ghost use Rattle.pm_model.specs.Made.{made_by};
+ghost use Rattle.pm_model.specs.Reviews.{list_of};
 ghost use Rattle.pm_laws.specs.Meaning.{AreGivenBy};
+ghost use Rattle.pm_state.specs.Listing.{AreListed, keeps};
 
 use crate::draft::Draft;
 use crate::graph::Graph;
+use pm_affect::KeptLists;
 use pm_history::{History, HistoryError};
-use pm_model::{Change, ChangeError, Entry, Grows, Made, Memory, Refusal, Table};
+use pm_model::{
+    Change, ChangeError, ElementId, Entry, Grows, Made, Memory, PairList, Refusal, ReviewOf, Table,
+};
 use std::alloc::Global;
 use std::marker::Model;
 
 /// The most entries of a history.
 const LONGEST_HISTORY: u64 = 262144;
 
-/// A version of the machine: its graph, and the accepted requests that led to it.
+/// A version of the machine: its graph, the lists of its kept reviews, and the accepted requests that led to it. Contracts see
+/// no lists, since the graph determines them.
 #[derive(Drop)]
 pub struct State {
     graph: Graph,
+    lists: KeptLists,
     history: History,
 }
 
@@ -51,16 +60,26 @@ impl State {
         ensures { IfOk result (λ s. s ≡ opening_machine) }
     {
         let graph = Graph::opening(alloc)?;
+        let lists = KeptLists::new(alloc);
         let history = History::new(alloc, LONGEST_HISTORY);
-        Ok(State { graph, history })
+        Ok(State {
+            graph,
+            lists,
+            history,
+        })
     }
 
-    pub(crate) fn joined(graph: Graph, history: History) -> State
+    pub(crate) fn joined(graph: Graph, lists: KeptLists, history: History) -> State
         requires replayed { IsReplayed (record { graph = graph; history = history.entries }) }
         requires limit { history.limit ≡ longest_history }
+        requires listed { AreListed lists graph }
         ensures { result ≡ record { graph = graph; history = history.entries } }
     {
-        State { graph, history }
+        State {
+            graph,
+            lists,
+            history,
+        }
     }
 
     /// How many entries were accepted.
@@ -84,6 +103,24 @@ impl State {
         ensures { result.now ≡ self.now.graph }
     {
         &self.graph
+    }
+
+    /// The lists of all kept reviews: what each answers in this version.
+    pub fn lists(&self) -> &KeptLists
+        ensures { AreListed result.now self.now.graph }
+    {
+        &self.lists
+    }
+
+    /// The list of a review that is kept: what it answers in this version. It is found by halving.
+    pub fn list(&self, of: &ReviewOf<ElementId>) -> &PairList
+        requires { list_any (is_kept_of of.now) self.now.graph.kept ≡ true }
+        ensures { result.now ≡ list_of self.now.graph of.now }
+    {
+        match self.lists.list(of) {
+            Some(list) => list,
+            None => unreachable!(),
+        }
     }
 
     /// What each state keeps: its history is legal, and it is the replay of its history.
@@ -113,10 +150,13 @@ impl State {
     }
 
     /// Makes one change, to which nothing responds, in place as an entry of the history, or tells the first
-    /// precondition that isn't met, a full history last. A refusal leaves the state, and so does want of memory.
+    /// precondition that isn't met, a full history last. No review may be kept before it, so that no last change is to be
+    /// told, and none by it: so there are no lists to make up. A refusal leaves the state, and so does want of memory.
     pub fn enter(&mut self, change: &Change, entry: Entry) -> Result<Made, ChangeError>
         requires named { IsNamed self.old.graph change.now }
         requires asked { proposed (state_of self.old) entry.request ≡ entered (state_of self.old) None change.now }
+        requires none { self.old.graph.kept ≡ [] }
+        requires no_more { keeps change.now ≡ false }
         ensures ok { OnOk result (effect self.old.graph change.now ≡ Ok self.new.graph) }
         ensures history { OnOk result (self.new.history ≡ self.old.history ++ entry ∷ []) }
         ensures room { OnOk result (length self.old.history < longest_history) }
@@ -148,14 +188,19 @@ impl State {
         self.history.share()
     }
 
-    /// The same state once more. What is shared takes a pointer for each page, and the rest is copied: so
-    /// `share` comes first.
+    /// The same state once more. What is shared takes a pointer for each page, a list of a kept review takes one, and the rest
+    /// is copied: so `share` comes first.
     pub fn copy(&self) -> Result<State, Memory>
         ensures { IfOk result (λ same. same ≡ self.now) }
     {
         let graph = self.graph.copy()?;
+        let lists = self.lists.copy()?;
         let history = self.history.copy()?;
-        Ok(State { graph, history })
+        Ok(State {
+            graph,
+            lists,
+            history,
+        })
     }
 
     /// A copy in which one change after another can be made, to be one entry together.
@@ -163,7 +208,8 @@ impl State {
         ensures { IfOk result (λ d. d ≡ self.now) }
     {
         let graph = self.graph.copy()?;
+        let lists = self.lists.copy()?;
         let history = self.history.copy()?;
-        Ok(Draft::begun(graph, history))
+        Ok(Draft::begun(graph, lists, history))
     }
 }

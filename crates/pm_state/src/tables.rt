@@ -7,6 +7,7 @@ ghost use Rattle.pm_state.specs.Shown.{graph_of};
 use pm_assoc::Assoc;
 use pm_deny::Deny;
 use pm_diagram::Diagram;
+use pm_kept::KeptReviews;
 use pm_model::{Change, ChangeError, ClassList, Made, Memory};
 use pm_oblig::Obligations;
 use pm_procs::Procs;
@@ -20,6 +21,7 @@ pub(crate) struct Tables {
     pub(crate) oblig: Obligations,
     pub(crate) rights: RightNames,
     pub(crate) procs: Procs,
+    pub(crate) kept: KeptReviews,
     /// The policy classes, by rising number.
     pub(crate) classes: ClassList,
 }
@@ -33,7 +35,42 @@ impl Tables {
         self.assoc.share()?;
         self.deny.share()?;
         self.oblig.share()?;
-        self.procs.share()
+        self.procs.share()?;
+        self.kept.share()
+    }
+
+    /// The elements and the policy classes once more.
+    fn copied_elements(&self) -> Result<(Diagram, ClassList), Memory>
+        ensures diagram { IfOk result (λ same. same.0 ≡ self.now.diagram) }
+        ensures classes { IfOk result (λ same. same.1 ≡ self.now.classes) }
+    {
+        let diagram = self.diagram.copy()?;
+        let classes = self.classes.copy()?;
+        Ok((diagram, classes))
+    }
+
+    /// The associations, prohibitions and obligations once more.
+    fn copied_rules(&self) -> Result<(Assoc, Deny, Obligations), Memory>
+        ensures assoc { IfOk result (λ same. same.0.grantees ≡ self.now.assoc.grantees) }
+        ensures deny { IfOk result (λ same. same.1.items ≡ self.now.deny.items) }
+        ensures oblig { IfOk result (λ same. same.2.items ≡ self.now.oblig.items) }
+    {
+        let assoc = self.assoc.copy()?;
+        let deny = self.deny.copy()?;
+        let oblig = self.oblig.copy()?;
+        Ok((assoc, deny, oblig))
+    }
+
+    /// The names of rights, the processes and the kept reviews once more.
+    fn copied_numbers(&self) -> Result<(RightNames, Procs, KeptReviews), Memory>
+        ensures rights { IfOk result (λ same. same.0 ≡ self.now.rights) }
+        ensures procs { IfOk result (λ same. same.1.procs ≡ self.now.procs.procs) }
+        ensures kept { IfOk result (λ same. same.2 ≡ self.now.kept) }
+    {
+        let rights = self.rights.copy()?;
+        let procs = self.procs.copy()?;
+        let kept = self.kept.copy()?;
+        Ok((rights, procs, kept))
     }
 
     /// The same tables once more. What is shared is not copied; the names of rights and the classes are.
@@ -41,13 +78,9 @@ impl Tables {
         ensures graph { IfOk result (λ same. graph_of same ≡ graph_of self.now) }
         ensures classes { IfOk result (λ same. same.classes ≡ self.now.classes) }
     {
-        let diagram = self.diagram.copy()?;
-        let assoc = self.assoc.copy()?;
-        let deny = self.deny.copy()?;
-        let oblig = self.oblig.copy()?;
-        let rights = self.rights.copy()?;
-        let procs = self.procs.copy()?;
-        let classes = self.classes.copy()?;
+        let (diagram, classes) = self.copied_elements()?;
+        let (assoc, deny, oblig) = self.copied_rules()?;
+        let (rights, procs, kept) = self.copied_numbers()?;
         Ok(Tables {
             diagram,
             assoc,
@@ -55,6 +88,7 @@ impl Tables {
             oblig,
             rights,
             procs,
+            kept,
             classes,
         })
     }
@@ -85,6 +119,8 @@ impl Tables {
             Change::Oblige { item } => self.oblige(item),
             Change::Withdraw { index } => self.withdraw(*index),
             Change::DefineRight { name } => self.define_right(*name),
+            Change::Keep { of } => self.keep(*of),
+            Change::DropReview { review } => self.drop_review(*review),
         }
     }
 
@@ -114,6 +150,8 @@ impl Tables {
             Change::Oblige { item } => self.check_oblige(item),
             Change::Withdraw { .. } => Ok(()),
             Change::DefineRight { name } => self.check_define_right(*name),
+            Change::Keep { of } => self.check_keep(of),
+            Change::DropReview { .. } => Ok(()),
         }
     }
 }

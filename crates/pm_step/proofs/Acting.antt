@@ -1,5 +1,5 @@
 -- An action in its turn, in a graph that has the obligations at the places.
-use Rattle.std.proofs.Common.{◌≡◌, ◌-◌, ◌<◌, ℕ, List, length, Some, Result, Ok, Err, OnOk, OnErr, slice_get, All, Contains, refl, sym, ◌∙◌, ap, subst, arith}
+use Rattle.std.proofs.Common.{◌≡◌, ◌-◌, ◌<◌, ℕ, List, length, Some, Result, Ok, Err, OnOk, OnErr, inl, inr, slice_get, All, Contains, refl, sym, ◌∙◌, ap, subst, arith}
 use Rattle.std.proofs.lemmas.List.Elements.{All-contains}
 use Rattle.std.proofs.lemmas.Option.{slice_get_within, same_Some}
 use Rattle.pm_model.specs.State.{Graph}
@@ -16,7 +16,7 @@ use Rattle.pm_laws.proofs.Responding.{responses_keep_obligations}
 use Rattle.pm_runner.specs.Turns.{Occasion, IsTurn, acted_at}
 use Rattle.pm_runner.proofs.Places.{as_many, stands_at}
 use Rattle.pm_runner.proofs.Steps.{standing-parts, turn-made}
-use Rattle.pm_step.specs.Responders.{items_at, AreResponders}
+use Rattle.pm_step.specs.Responders.{items_at, AreResponders, IsLeftBy}
 
 module _ (names : EventNames) (version : ℕ) (obligations : List Obligation) (places : List ℕ) (G : Graph) (place : Place) where
   abbrev these : List Obligation
@@ -65,11 +65,13 @@ module _ (names : EventNames) (version : ℕ) (obligations : List Obligation) (p
 
   -- whether it is done or not
   pub responders-stay-either : {A E : Type 0} (result : Result A E) (before behind : Machine) → before.graph ≡ G →
-      OnOk result (acted_at occasion G place ≡ Ok behind.graph) → OnErr result (behind ≡ before) →
+      OnOk result (acted_at occasion G place ≡ Ok behind.graph) → OnErr result (IsLeftBy before behind (acted_at occasion G place)) →
       AreResponders obligations places G → IsTurn occasion G place → AreResponders obligations places behind.graph
   responders-stay-either (Ok a) before behind is done left h turn = responders-stay behind.graph h turn done
-  responders-stay-either (Err e) before behind is done left h turn =
-      subst (λ (K : Graph). AreResponders obligations places K) (sym is ∙ ap (λ (M : Machine). M.graph) (sym left)) h
+  responders-stay-either (Err e) before behind is done left h turn = elim left [
+    | inl same ↦ subst (λ (K : Graph). AreResponders obligations places K) (sym is ∙ ap (λ (M : Machine). M.graph) (sym same)) h
+    | inr made ↦ responders-stay behind.graph h turn made
+  ]
 
 -- what is at a place is below the length
 pub place-below : (n : ℕ) (places : List ℕ) (i at : ℕ) → All (λ place. place < n) places → slice_get places i ≡ Some at → at < n

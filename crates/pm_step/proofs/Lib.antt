@@ -1,6 +1,7 @@
 mod Acting
 mod Glancing
-mod Listing
 mod Placed
+mod Resolved
+mod Settled
 mod Stepping
 mod Telling

@@ -1,13 +1,14 @@
 -- From a request that comes to a change to the machine's answer.
-use Rattle.std.proofs.Common.{◌≡◌, ◌+◌, ◌<◌, ◌≤◌, nat_le, Bool, true, false, ◌++◌, ◌∷◌, [], length, Option, Some, None, refl, sym, ◌∙◌, ap, arith}
+use Rattle.std.proofs.Common.{List, subst, ◌≡◌, ℕ, ◌+◌, ◌<◌, ◌≤◌, nat_le, Bool, true, false, ◌++◌, ◌∷◌, [], length, Option, Some, None, Ok, refl, sym, ◌∙◌, ap, arith}
 use Rattle.std.proofs.lemmas.Bool.{le-leb}
 use Rattle.std.proofs.lemmas.Option.{same_Some}
 use Rattle.std.proofs.lemmas.List.{append-nil, length-append}
 use Rattle.pm_model.specs.State.{State, Graph}
-use Rattle.pm_model.specs.Effect.{refusal, changed}
+use Rattle.pm_model.specs.Effect.{refusal, changed, effect}
 use Rattle.pm_model.specs.Made.{made_by, shown_of}
+use Rattle.pm_model.specs.LastChanges.{with_changes}
 use Rattle.pm_model.specs.Answer.{Answer, told, entered, proposed, longest_history, limited, answer, after, refusal_in}
-use Rattle.pm_model.specs.History.{Machine, state_of}
+use Rattle.pm_model.specs.History.{Machine, state_of, IsAnswered, IsReplayed}
 use Rattle.pm_model.specs.Recorded.{entries_of}
 use Rattle.pm_model.specs.declared.requests.Request.{Request}
 use Rattle.pm_model.specs.declared.requests.Entry.{Entry}
@@ -17,18 +18,28 @@ use Rattle.pm_model.specs.declared.replies.Refusal.TheVariants.{Full}
 use Rattle.pm_model.specs.declared.replies.Table.TheVariants.{History}
 use Rattle.pm_model.specs.declared.replies.Reply.{Reply}
 use Rattle.pm_model.specs.declared.replies.Reply.TheVariants.{Done, Refused}
+use Rattle.pm_laws.proofs.KeptReviews.{with_changes_none}
 use Rattle.pm_laws.proofs.Replayed.{bounded}
 use Rattle.pm_step.specs.Answered.{HasAnswered, IsStep}
+use Rattle.pm_step.specs.Settling.{reviews_settled}
 use Rattle.pm_step.specs.declared.steps.Stepped.TheVariants.{Accepted, Answered}
 
 -- what an accepted change is answered by
 abbrev given : State → Change → Graph → Answer
-given S c H = record { reply = Done 0 (shown_of (made_by S.graph c)); next = Some (record { graph = H; version = S.version + 1 }) }
+given S c H = record {
+  reply = Done 0 (shown_of (made_by S.graph c));
+  next = Some (record { graph = with_changes S.graph (S.version + 1) H; version = S.version + 1 });
+}
 
 -- where the history is full, what would be accepted is refused
 full-is : (S : State) (r : Request) (c : Change) (H : Graph) → proposed S r ≡ given S c H → nat_le longest_history S.version ≡ true →
     answer S r ≡ told (Refused (Full History))
 full-is S r c H proposal full = rw (proposal, full) refl
+
+-- what the change makes is answered so
+pub entered-is : (S : State) (r : Request) (c : Change) (H : Graph) → proposed S r ≡ entered S None c → effect S.graph c ≡ Ok H →
+    proposed S r ≡ given S c H
+entered-is S r c H proposal made = proposal ∙ rw made refl
 
 pub refused-is : (S : State) (r : Request) (c : Change) (why : Refusal) → proposed S r ≡ entered S None c → refusal_in S c ≡ Some why →
     answer S r ≡ told (Refused why)
@@ -120,3 +131,79 @@ step-accepted M N e reply is = record {
   state = sym (ap (after (state_of M)) is.0);
   history = is.1 ∙ sym (ap (λ (a : Answer). M.history ++ entries_of a.next e) is.0);
 }
+
+-- a change made in place, where no review is kept
+pub made-answered : (M N : Machine) (e : Entry) (c : Change) (reply : Reply) → proposed (state_of M) e.request ≡ entered (state_of M) None c →
+    M.graph.kept ≡ [] → effect M.graph c ≡ Ok N.graph → length M.history < longest_history → N.history ≡ M.history ++ e ∷ [] →
+    reply ≡ Done 0 (shown_of (made_by M.graph c)) → HasAnswered M N e reply
+made-answered M N e c reply proposal none made room grows says = step-accepted M N e reply (full, grows) where
+  S : State
+  S = state_of M
+
+  long : S.version + 1 ≡ length N.history
+  long = let more = length-append M.history (e ∷ []) in let same = ap length grows in omega (arith, more, same)
+
+  next : State
+  next = record { graph = with_changes S.graph (S.version + 1) N.graph; version = S.version + 1 }
+
+  next-is : next ≡ state_of N
+  next-is =
+      ap (λ (K : Graph). let T : State = record { graph = K; version = S.version + 1 } in T)
+      (with_changes_none S.graph N.graph (S.version + 1) none)
+      ∙ ap (λ (n : ℕ). let T : State = record { graph = N.graph; version = n } in T) long
+
+  full : answer S e.request ≡ record { reply = reply; next = Some (state_of N) }
+  full =
+      entry-is S next e.request (Done 0 (shown_of (made_by M.graph c))) (entered-is S e.request c N.graph proposal made) room
+      ∙ rw (next-is, says) refl
+
+-- ---- a draft whose kept reviews are settled
+
+settled-is : (G H : Graph) (version : ℕ) → with_changes G version H ≡ reviews_settled G version H
+unfolding reviews_settled
+settled-is G H version = refl
+
+module _ (M D : Machine) (K : Graph) (r : Request) (reply : Reply) where
+  abbrev version : ℕ
+  version = length M.history + 1
+
+  -- the answer by a graph
+  abbrev by_graph : Graph → Answer
+  by_graph H = record { reply = reply; next = Some (record { graph = H; version = version }) }
+
+  module _ (settled : D.graph ≡ reviews_settled M.graph version K) (proposal : proposed (state_of M) r ≡ by_graph (with_changes M.graph version K)) where
+    settled-proposed : proposed (state_of M) r ≡ by_graph D.graph
+    settled-proposed = proposal ∙ ap by_graph (settled-is M.graph K version ∙ sym settled)
+
+    pub settled-answered : D.history ≡ M.history → IsReplayed M → IsAnswered D r
+    settled-answered history replayed =
+        subst (λ (entries : List Entry). IsAnswered (record { graph = D.graph; history = entries }) r) (sym history)
+        (ap (λ (S : State). (proposed S r).next) replayed.content ∙ ap (λ (a : Answer). a.next) settled-proposed)
+
+    -- it is the next state
+    pub settled-step : (N : Machine) (e : Entry) → e.request ≡ r → D.history ≡ M.history → length D.history < longest_history →
+        N ≡ record { graph = D.graph; history = D.history ++ e ∷ [] } → IsStep M e (Accepted N reply)
+    settled-step N e asks history room is = (ap (answer (state_of M)) asks ∙ entry-is (state_of M) next r reply settled-proposed within ∙ on, grows) where
+      grows : N.history ≡ M.history ++ e ∷ []
+      grows = ap (λ (m : Machine). m.history) is ∙ ap (λ (entries : List Entry). entries ++ e ∷ []) history
+
+      long : length N.history ≡ version
+      long = let more = length-append M.history (e ∷ []) in let same = ap length grows in omega (arith, more, same)
+
+      within : length M.history < longest_history
+      within = let same = ap length history in omega (arith, room, same)
+
+      next : State
+      next = record { graph = D.graph; version = version }
+
+      on : by_graph D.graph ≡ record { reply = reply; next = Some (state_of N) }
+      on = ap by_graph (sym (ap (λ (m : Machine). m.graph) is))
+          ∙ ap (λ (n : ℕ). let a : Answer = record { reply = reply; next = Some (record { graph = N.graph; version = n }) } in a) (sym long)
+
+    -- but for a full history
+    pub settled-full : (e : Entry) → e.request ≡ r → D.history ≡ M.history → longest_history ≤ length D.history →
+        IsStep M e (Answered (Refused (Full History)))
+    settled-full e asks history full =
+        let same = ap length history in
+        let next : State = record { graph = D.graph; version = version } in
+        ap (answer (state_of M)) asks ∙ full-entry-is (state_of M) next r reply settled-proposed (omega (arith, full, same))

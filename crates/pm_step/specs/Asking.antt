@@ -1,11 +1,15 @@
 -- Requests that ask and change nothing, and replies to which nothing has responded.
 use Rattle.std.specs.Prelude.{◌≡◌, ◌==◌, Bool, true, false, Result, Ok, Err}
+use Rattle.std.specs.List.{list_any}
+use Rattle.pm_model.specs.KeptReviews.{is_kept_of}
 use Rattle.pm_model.specs.State.{Graph}
 use Rattle.pm_model.specs.declared.events.Event.{Event}
 use Rattle.pm_model.specs.declared.replies.Refusal.{Refusal}
 use Rattle.pm_model.specs.declared.replies.Shown.TheVariants.{Nothing}
 use Rattle.pm_model.specs.declared.requests.Body.{Body}
 use Rattle.pm_model.specs.declared.requests.Body.TheVariants as body
+use Rattle.pm_model.specs.declared.requests.Review.{Review}
+use Rattle.pm_model.specs.declared.requests.Review.TheVariants.{Kept}
 use Rattle.pm_model.specs.declared.replies.Reply.{Reply}
 use Rattle.pm_model.specs.declared.replies.Reply.TheVariants as reply
 use Rattle.pm_step.specs.Glances.{accessed_event}
@@ -54,3 +58,8 @@ IsAskedFor G body.Version p = p ≡ Told (reply.Done 0 Nothing)
 IsAskedFor G (body.Access q right target) p = p ≡ proposal_of (accessed_event G q right target)
 IsAskedFor G (body.Review q question) p = IsReply p
 IsAskedFor G _ p = Unit {0}
+
+-- what is asked for as it is kept is kept
+abbrev pub IsOfKept : Graph → Review → Type 0
+IsOfKept G (Kept of) = list_any (is_kept_of of) G.kept ≡ true
+IsOfKept G _ = Unit {0}

@@ -7,7 +7,7 @@ use Rattle.pm_model.specs.Formed.{IsLive, IsNamed}
 use Rattle.pm_model.specs.declared.events.Event.{Event}
 use Rattle.pm_model.specs.declared.requests.Change as requests
 use Rattle.pm_pattern.specs.Live.{IsEventLive}
-use Rattle.pm_admin.specs.Containing.{relation_in}
+use Rattle.pm_state.specs.Containing.{relation_in}
 use Rattle.pm_step.specs.declared.proposals.Actor.{Actor}
 use Rattle.pm_step.specs.declared.proposals.Proposal.{Proposal}
 use Rattle.pm_step.specs.declared.proposals.Proposal.TheVariants.{Told, Change, Granted}

@@ -1,5 +1,5 @@
 -- Those that respond, by their places in a list of obligations.
-use Rattle.std.specs.Prelude.{ℕ, ◌<◌, List, [], ◌∷◌, length, Option, None, Some, slice_get, All, Contains}
+use Rattle.std.specs.Prelude.{◌≡◌, ◌⊎◌, ℕ, ◌<◌, List, [], ◌∷◌, length, Option, None, Some, Result, Ok, slice_get, All, Contains}
 use Rattle.pm_model.specs.State.{Graph}
 use Rattle.pm_model.specs.declared.obligations.Obligation.{Obligation}
 use Rattle.pm_model.specs.declared.requests.Change.{Change}
@@ -33,3 +33,7 @@ withdrawn _ = None
 pub record Underway : Type 0 where
   pub occasion : Occasion
   pub machine : Machine
+
+-- after an error the draft is as it was, or what was to be done in it is done
+abbrev pub IsLeftBy : {E : Type 0} → Machine → Machine → Result Graph E → Type 0
+IsLeftBy old new came = (new ≡ old) ⊎ (came ≡ Ok new.graph)

@@ -1,14 +1,16 @@
-//! Entries to which obligations respond: each is made in a draft, and is the next state or nothing.
+//! Entries that are made in a draft, and are the next state or nothing: those to which obligations respond, and all while
+//! reviews are kept.
 ghost use Rattle.std.specs.Prelude.{◌≡◌, ◌≤◌, ◌<◌, ◌+◌, [], length, nat_lt, None, Some, Result, Ok, All, IfOk, IfErr, IfSome, true};
 ghost use Rattle.pm_model.specs.Answer.{entered, granted, proposed, responded, settled, told};
 ghost use Rattle.pm_model.specs.Events.{names_in, obliging, responders};
 ghost use Rattle.pm_model.specs.Formed.{IsNamed};
 ghost use Rattle.pm_model.specs.History.{state_of};
+ghost use Rattle.pm_model.specs.LastChanges.{with_changes};
 ghost use Rattle.pm_model.specs.Obligations.{max_obligations};
 ghost use Rattle.pm_model.specs.Responses.{Stopped, responses};
 ghost use Rattle.pm_runner.specs.Outcomes.{IsStop};
 ghost use Rattle.pm_pattern.specs.Live.{IsEventLive};
-ghost use Rattle.pm_admin.specs.Containing.{relation_in};
+ghost use Rattle.pm_state.specs.Containing.{relation_in};
 ghost use Rattle.pm_runner.specs.Standing.{StandAt, without};
 ghost use Rattle.pm_step.specs.Answered.{IsStep};
 ghost use Rattle.pm_step.specs.Proposed.{event_by, IsActorLive};
@@ -17,6 +19,7 @@ ghost use Rattle.pm_step.specs.Responders.{AreResponders, items_at, withdrawn};
 use crate::proposals::Actor;
 use crate::replies::done;
 use crate::responding::respond;
+use crate::settling::settle_reviews;
 use crate::steps::Stepped;
 use pm_admin::{names_in, patterns_live, raised};
 use pm_history::HistoryError;
@@ -92,13 +95,14 @@ fn places_of(graph: &Graph, event: &Event, left_out: Option<u32>) -> Result<Posi
     }
 }
 
-// The draft as the next state, or a full history.
-fn finish(state: &State, draft: Draft, reply: Reply, entry: Entry) -> Result<Stepped, Memory>
+// The draft as the next state, with the last changes of its kept reviews; or a full history.
+fn finish(state: &State, mut draft: Draft, reply: Reply, entry: Entry) -> Result<Stepped, Memory>
     requires history { draft.history ≡ state.now.history }
-    requires asked { proposed (state_of state.now) entry.request ≡ record { reply = reply; next = Some (record { graph = draft.graph; version = length state.now.history + 1 }) } }
+    requires asked { proposed (state_of state.now) entry.request ≡ record { reply = reply; next = Some (record { graph = with_changes state.now.graph (length state.now.history + 1) draft.graph; version = length state.now.history + 1 }) } }
     ensures { IfOk result (IsStep state.now entry) }
 {
     state.replayed();
+    settle_reviews(state, &mut draft, state.version() + 1)?;
     match draft.finish(entry) {
         Ok(next) => Ok(Stepped::Accepted(next, reply)),
         Err(HistoryError::Full) => {
@@ -166,6 +170,24 @@ fn settle(
     match run_in(state.graph(), draft, event, places, version) {
         Ok(draft) => finish(state, draft, reply, entry),
         Err(error) => Ok(Stepped::Answered(stopped(error)?)),
+    }
+}
+
+/// The step by a request that comes to this change, to which nothing responds. The state stays.
+pub(crate) fn enter_in_draft(
+    state: &State,
+    change: &Change,
+    entry: Entry,
+) -> Result<Stepped, Memory>
+    requires named { IsNamed state.now.graph change.now }
+    requires asked { proposed (state_of state.now) entry.request ≡ entered (state_of state.now) None change.now }
+    ensures { IfOk result (IsStep state.now entry) }
+{
+    let mut draft = state.draft()?;
+    match draft.change(change) {
+        Ok(made) => finish(state, draft, done(0, made), entry),
+        Err(ChangeError::Refused(why)) => Ok(Stepped::Answered(Reply::Refused(why))),
+        Err(ChangeError::Memory) => Err(Memory),
     }
 }
 

@@ -3,12 +3,12 @@
 
 mod entries;
 mod glances;
-mod judging;
 mod looking;
 mod proposals;
 mod replies;
 mod responding;
 mod reviewing;
+mod settling;
 mod solo;
 mod steps;
 #[cfg(test)]

@@ -3,7 +3,7 @@ ghost use Rattle.std.specs.Prelude.{◌≡◌, length, nat_lt, if◌then◌else�
 ghost use Rattle.pm_model.specs.Events.{responders};
 ghost use Rattle.pm_model.specs.History.{state_of};
 ghost use Rattle.pm_pattern.specs.Live.{IsEventLive};
-ghost use Rattle.pm_admin.specs.Containing.{relation_in};
+ghost use Rattle.pm_state.specs.Containing.{relation_in};
 ghost use Rattle.pm_step.specs.Asking.{asks_freely, only_asks};
 ghost use Rattle.pm_step.specs.Glances.{IsGlanced};
 
@@ -12,6 +12,7 @@ use crate::glances::Glance;
 use crate::proposals::{Proposal, propose};
 use pm_model::{Body, Event, Memory, Reply, Request};
 use pm_state::State;
+use std::thread::Threads;
 
 fn only_asks(body: &Body) -> bool
     ensures { result ≡ only_asks body.now }
@@ -35,16 +36,17 @@ fn at_grant(state: &State, event: &Event) -> Glance
 
 /// What a request comes to in this state, which stays. It needs the desk exactly where it is a command, of
 /// sessions and processes too, or an access that is granted, whose `after` isn't above the version, and to
-/// which some obligation responds. Else it gets the machine's reply. `version` and an access take no memory.
+/// which some obligation responds. Else it gets the machine's reply. `version` and an access take no memory. A
+/// `survey` may start threads, which end within the call.
 #[tactic(auto, using(crate::proofs::Glancing::desk_needed, crate::proofs::Glancing::told_glanced, crate::proofs::Glancing::granted_glanced))]
-pub fn glance(state: &State, request: &Request) -> Result<Glance, Memory>
+pub fn glance<R: Threads + Sync>(rt: &R, state: &State, request: &Request) -> Result<Glance, Memory>
     ensures ok { IfOk result (IsGlanced (state_of state.now) request.now) }
     ensures free { asks_freely request.now.body ≡ true → IsOk result }
 {
     if !only_asks(&request.body) {
         return Ok(Glance::NeedsDesk);
     }
-    match propose(state, request) {
+    match propose(rt, state, request) {
         Ok(Proposal::Told(reply)) => Ok(Glance::Answer(reply)),
         Ok(Proposal::Granted(event)) => Ok(at_grant(state, &event)),
         Ok(

@@ -15,6 +15,7 @@ use pm_model::{
     Request, Shown,
 };
 use pm_state::State;
+use std::thread::Threads;
 
 /// The user who gives a command, and the process.
 #[derive(Clone, Copy)]
@@ -119,7 +120,12 @@ fn access(state: &State, process: u32, right: Name, target: Name) -> Proposal
     }
 }
 
-fn review(state: &State, process: u32, question: &Question) -> Result<Proposal, Memory>
+fn review<R: Threads + Sync>(
+    rt: &R,
+    state: &State,
+    process: u32,
+    question: &Question,
+) -> Result<Proposal, Memory>
     ensures answer { IfOk result (λ p. answer_by (state_of state.now) p ≡ or_refused (acting state.now.graph process) (λ u. answer_review (state_of state.now) u process question.now)) }
     ensures possible { IfOk result (IsPossible (state_of state.now)) }
     ensures told { IfOk result IsTold }
@@ -131,15 +137,19 @@ fn review(state: &State, process: u32, question: &Question) -> Result<Proposal, 
         Err(why) => return Ok(refused(why)),
     };
     match authorise_review(graph, user, process, question) {
-        Ok(review) => Ok(Proposal::Told(answer(graph, review)?)),
+        Ok(review) => Ok(Proposal::Told(answer(rt, state, review)?)),
         Err(ChangeError::Refused(why)) => Ok(refused(why)),
         Err(ChangeError::Memory) => Err(Memory),
     }
 }
 
 /// What the machine makes of a request. Its only error is want of memory: for the sets of a prohibition, a
-/// response, or the lists of a review.
-pub(crate) fn propose(state: &State, request: &Request) -> Result<Proposal, Memory>
+/// response, or the lists of a review. A `survey` may start threads, which end within the call.
+pub(crate) fn propose<R: Threads + Sync>(
+    rt: &R,
+    state: &State,
+    request: &Request,
+) -> Result<Proposal, Memory>
     ensures answer { IfOk result (λ p. answer_by (state_of state.now) p ≡ proposed (state_of state.now) request.now) }
     ensures possible { IfOk result (IsPossible (state_of state.now)) }
     ensures asked { only_asks request.now.body ≡ true → IfOk result IsTold }
@@ -165,6 +175,6 @@ pub(crate) fn propose(state: &State, request: &Request) -> Result<Proposal, Memo
             target,
         } => Ok(access(state, *process, *right, *target)),
         Body::Admin { process, command } => administer(state, *process, command),
-        Body::Review { process, question } => review(state, *process, question),
+        Body::Review { process, question } => review(rt, state, *process, question),
     }
 }

@@ -10,6 +10,7 @@ fn shown(made: Made) -> Shown
     match made {
         Made::Session(number) => Shown::Session(number),
         Made::Process(number) => Shown::Process(number),
+        Made::Review(number) => Shown::Review(number),
         Made::Nothing | Made::Element(_) => Shown::Nothing,
     }
 }

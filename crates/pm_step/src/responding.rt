@@ -4,7 +4,7 @@ ghost use Rattle.pm_model.specs.Formed.{IsUser};
 ghost use Rattle.pm_model.specs.Obligations.{max_obligations};
 ghost use Rattle.pm_model.specs.Responses.{acted, commanded, responses};
 ghost use Rattle.pm_runner.specs.Outcomes.{IsRefusal, IsStop};
-ghost use Rattle.pm_step.specs.Responders.{AreResponders, items_at};
+ghost use Rattle.pm_step.specs.Responders.{AreResponders, IsLeftBy, items_at};
 
 use pm_admin::{all_hold, permit};
 use pm_model::{Action, ChangeError, Command, ElementId, EventNames, Memory, Place};
@@ -13,12 +13,12 @@ use pm_runner::{ActError, Acts, PositionList, RunError, run_responses};
 use pm_state::Draft;
 use std::marker::Model;
 
-/// Has the command done, where the user may give it. No process gives it.
+/// Has the command done, where the user may give it. No process gives it. After want of memory it may be done.
 fn give(draft: &mut Draft, author: ElementId, command: &Command) -> Result<(), ActError>
     requires { IsUser draft.old.graph.elements author }
     ensures ok { OnOk result (commanded draft.old.graph author command.now ≡ Ok draft.new.graph) }
     ensures refused { IfErr result (IsRefusal (commanded draft.old.graph author command.now)) }
-    ensures err { OnErr result (draft.new ≡ draft.old) }
+    ensures err { OnErr result (IsLeftBy draft.old draft.new (commanded draft.old.graph author command.now)) }
     ensures history { draft.new.history ≡ draft.old.history }
 {
     let change = match permit(draft.graph(), author, None, command) {
@@ -45,7 +45,7 @@ fn act_by(
     requires { IsUser draft.old.graph.elements author }
     ensures ok { OnOk result (acted names.now version draft.old.graph author place action.now ≡ Ok draft.new.graph) }
     ensures refused { IfErr result (IsRefusal (acted names.now version draft.old.graph author place action.now)) }
-    ensures err { OnErr result (draft.new ≡ draft.old) }
+    ensures err { OnErr result (IsLeftBy draft.old draft.new (acted names.now version draft.old.graph author place action.now)) }
     ensures history { draft.new.history ≡ draft.old.history }
 {
     let fresh = fresh_name(place, version);

@@ -1,111 +1,75 @@
 //! What a review answers.
-ghost use Rattle.std.specs.Prelude.{◌≡◌, ◌++◌, ◌∷◌, [], filter, IfOk, OnOk};
+ghost use Rattle.std.specs.Prelude.{◌≡◌, IfOk};
 ghost use Rattle.pm_model.specs.Authority.{subjects_of};
 ghost use Rattle.pm_model.specs.Formed.{Each, IsLive};
-ghost use Rattle.pm_model.specs.Reviews.{count_held, is_user_at, numbers_in, users_in, reviewed, rights_in, survey};
+ghost use Rattle.pm_model.specs.KeptReviews.{kept_at};
+ghost use Rattle.pm_model.specs.Reviews.{last_change, numbers_in, reviewed, rights_in, survey};
+ghost use Rattle.pm_step.specs.Asking.{IsOfKept};
 
-use crate::judging::GraphJudge;
-use pm_admin::is_user;
-use pm_model::{CountList, ElementId, Memory, PlaceList, Reply, Review, UserList};
-use pm_review::{capabilities, count_held, entries};
-use pm_state::Graph;
+use pm_model::{ChangeList, CountList, Memory, Reply, Review, UserList};
+use pm_review::bulk;
+use pm_state::{Graph, GraphJudge, State, capabilities_of, entries_of, live_elements};
+use std::thread::Threads;
 
-// All live elements.
-fn live_elements(graph: &Graph) -> Result<PlaceList, Memory>
-    ensures { IfOk result (λ list. list ≡ numbers_in graph.now.elements) }
+// The last change of a kept review.
+fn last_change(graph: &Graph, review: u32) -> Result<Reply, Memory>
+    ensures { IfOk result (λ reply. reply ≡ last_change (kept_at graph.now.kept review)) }
 {
-    graph.formed();
-    let elements = graph.elements();
-    let mut list = PlaceList::new(graph.classes().allocator());
-    let mut from = 0;
-    while let Some(id) = elements.next(from) {
-        list.push(id)?;
-        from = id.number() + 1;
+    match graph.kept().last(review) {
+        Some((at, changes)) => Ok(Reply::Changes {
+            at,
+            list: changes.copy()?,
+        }),
+        None => Ok(Reply::Changes {
+            at: 0,
+            list: ChangeList::new(graph.classes().allocator()),
+        }),
     }
-    Ok(list)
 }
 
-// Puts the element at the end of the list, if it is a user.
-fn push_user(graph: &Graph, users: &mut UserList, id: ElementId) -> Result<(), Memory>
-    requires { IsLive graph.now.elements id }
-    ensures { OnOk result (users.new ≡ users.old ++ filter (is_user_at graph.now.elements) (id ∷ [])) }
-{
-    if is_user(graph, id) {
-        return users.push(id);
-    }
-    Ok(())
-}
-
-// All live users.
-fn live_users(graph: &Graph) -> Result<UserList, Memory>
-    ensures { IfOk result (λ list. list ≡ users_in graph.now.elements) }
-{
-    graph.formed();
-    let elements = live_elements(graph)?;
-    let mut users = UserList::new(elements.allocator());
-    for id in elements.as_slice() {
-        push_user(graph, &mut users, *id)?;
-    }
-    Ok(users)
-}
-
-fn caps(graph: &Graph, user: ElementId) -> Result<Reply, Memory>
-    requires { IsLive graph.now.elements user }
-    ensures { IfOk result (λ reply. reply ≡ reviewed graph.now (Review.Caps user)) }
-{
-    graph.formed();
-    let elements = live_elements(graph)?;
-    let mut judge = GraphJudge::new(graph);
-    let list = capabilities(&mut judge, &elements, user)?;
-    Ok(Reply::Caps { list })
-}
-
-fn entries_of(graph: &Graph, element: ElementId) -> Result<Reply, Memory>
-    requires { IsLive graph.now.elements element }
-    ensures { IfOk result (λ reply. reply ≡ reviewed graph.now (Review.Entries element)) }
-{
-    graph.formed();
-    let users = live_users(graph)?;
-    let mut judge = GraphJudge::new(graph);
-    let list = entries(&mut judge, &users, element)?;
-    Ok(Reply::Entries { list })
-}
-
-// How many pairs of a right and one of these elements the user has.
-fn count(graph: &Graph, elements: &PlaceList, user: ElementId) -> u64
-    requires user { IsLive graph.now.elements user }
-    requires elements { elements.now ≡ numbers_in graph.now.elements }
-    ensures { result ≡ count_held (rights_in graph.now) elements.now user }
-{
-    graph.formed();
-    let mut judge = GraphJudge::new(graph);
-    count_held(&mut judge, elements, user)
-}
-
-// The same of each of these users, in their order.
-fn counts(graph: &Graph, users: &UserList) -> Result<CountList, Memory>
+// How many pairs of a right and an element each of these users has, in their order.
+fn counts<R: Threads + Sync>(rt: &R, graph: &Graph, users: &UserList) -> Result<CountList, Memory>
     requires { Each (IsLive graph.now.elements) users.now }
     ensures { IfOk result (λ counts. counts ≡ survey (rights_in graph.now) (numbers_in graph.now.elements) users.now) }
 {
+    graph.formed();
     let elements = live_elements(graph)?;
-    let mut counts = CountList::new(elements.allocator());
-    for user in users.as_slice() {
-        counts.push(count(graph, &elements, *user))?;
-    }
-    Ok(counts)
+    let judge = GraphJudge::new(graph);
+    bulk(
+        rt,
+        &judge,
+        |judge, user, element| judge.rights(user, element),
+        &elements,
+        users,
+    )
 }
 
-/// What is answered to a review that is allowed. It asks for the rights of each pair of a user and an element once.
-pub(crate) fn answer(graph: &Graph, review: Review) -> Result<Reply, Memory>
-    requires { Each (IsLive graph.now.elements) (subjects_of review) }
-    ensures { IfOk result (λ reply. reply ≡ reviewed graph.now review) }
+/// What is answered to a review that is allowed. It asks for the rights of each pair of a user and an element once; of a review
+/// that is kept it copies the list that stands in the state. A `survey` may start threads, which end within the call.
+pub(crate) fn answer<R: Threads + Sync>(
+    rt: &R,
+    state: &State,
+    review: Review,
+) -> Result<Reply, Memory>
+    requires live { Each (IsLive state.now.graph.elements) (subjects_of review) }
+    requires kept { IsOfKept state.now.graph review }
+    ensures { IfOk result (λ reply. reply ≡ reviewed state.now.graph review) }
 {
+    let graph = state.graph();
     match review {
-        Review::Caps { user } => caps(graph, user),
-        Review::Entries { element } => entries_of(graph, element),
+        Review::Caps { user } => Ok(Reply::Caps {
+            list: capabilities_of(graph, user)?,
+        }),
+        Review::Entries { element } => Ok(Reply::Entries {
+            list: entries_of(graph, element)?,
+        }),
         Review::Survey { users } => {
-            let counts = counts(graph, &users)?;
+            let counts = counts(rt, graph, &users)?;
             Ok(Reply::Survey { users, counts })
         }
+        Review::Kept { of } => Ok(Reply::Kept {
+            list: state.list(&of).copy()?,
+        }),
+        Review::Changes { review, .. } => last_change(graph, review),
     }
 }

@@ -12,6 +12,7 @@ use pm_model::{Memory, Reply, Request};
 use pm_state::State;
 use std::alloc::Global;
 use std::marker::Model;
+use std::thread::Threads;
 
 /// The machine with one caller, whose seat is 0. Contracts see its graph and its history.
 #[derive(Drop)]
@@ -53,8 +54,13 @@ impl Solo {
 
     /// The machine's answer to a request, as the next entry of seat 0 where it is accepted, and the
     /// version after it. Each element that the reply names is live. On Memory all is as before; `version`
-    /// never answers it, nor does an access to which no obligation responds.
-    pub fn ask(&mut self, request: &Request) -> Result<(Reply, u64), Memory>
+    /// never answers it, nor does an access to which no obligation responds. A `survey` may start threads, which
+    /// end within the call.
+    pub fn ask<R: Threads + Sync>(
+        &mut self,
+        rt: &R,
+        request: &Request,
+    ) -> Result<(Reply, u64), Memory>
         ensures ok { IfOk result (Tells self.old self.new request.now) }
         ensures named { IfOk result (λ t. IsNameable (λ n. is_some (element_at self.new.graph.elements n)) t.0) }
         ensures err { OnErr result (self.new ≡ self.old) }
@@ -62,7 +68,7 @@ impl Solo {
     {
         self.state.graph().formed();
         let nth = self.version() + 1;
-        let reply = advance(&mut self.state, 0, nth, request)?;
+        let reply = advance(rt, &mut self.state, 0, nth, request)?;
         Ok((reply, self.version()))
     }
 }

@@ -1,21 +1,23 @@
 //! One request as a step: in place, or from one state to the next.
-ghost use Rattle.std.specs.Prelude.{◌≡◌, length, nat_lt, None, Some, IfOk, IsOk, OnErr, true};
+ghost use Rattle.std.specs.Prelude.{◌≡◌, [], length, nat_lt, None, Some, IfOk, IsOk, OnErr, false, true};
 ghost use Rattle.pm_model.specs.Answer.{entered, granted, proposed};
 ghost use Rattle.pm_model.specs.Events.{responders};
 ghost use Rattle.pm_model.specs.Formed.{IsNamed};
 ghost use Rattle.pm_model.specs.History.{state_of};
 ghost use Rattle.pm_model.specs.declared.requests.Entry.{Entry};
 ghost use Rattle.pm_pattern.specs.Live.{IsEventLive};
-ghost use Rattle.pm_admin.specs.Containing.{relation_in};
+ghost use Rattle.pm_state.specs.Containing.{relation_in};
+ghost use Rattle.pm_state.specs.Listing.{keeps};
 ghost use Rattle.pm_step.specs.Answered.{HasAnswered, IsStep};
 ghost use Rattle.pm_step.specs.Asking.{asks_freely, none_responded};
 ghost use Rattle.pm_step.specs.Proposed.{event_by, IsActorLive};
 
-use crate::entries::{any_responds, awaited, respond_to_access, respond_to_change};
+use crate::entries::{any_responds, awaited, enter_in_draft, respond_to_access, respond_to_change};
 use crate::proposals::{Actor, Proposal, propose};
 use crate::replies::done;
 use pm_model::{Change, ChangeError, Entry, Event, Memory, Reply, Request};
-use pm_state::State;
+use pm_state::{State, keeps};
+use std::thread::Threads;
 
 /// What a step comes to.
 #[derive(Drop)]
@@ -26,8 +28,10 @@ pub enum Stepped {
     Answered(Reply),
 }
 
-// Makes the change in place, or refuses it. Nothing responds to it.
+// Makes the change in place, or refuses it. Nothing responds to it, no review is kept, and it keeps none.
 fn enter(state: &mut State, change: &Change, entry: Entry) -> Result<Reply, Memory>
+    requires none { state.old.graph.kept ≡ [] }
+    requires no_more { keeps change.now ≡ false }
     requires named { IsNamed state.old.graph change.now }
     requires asked { proposed (state_of state.old) entry.request ≡ entered (state_of state.old) None change.now }
     ensures ok { IfOk result (HasAnswered state.old state.new entry) }
@@ -53,7 +57,23 @@ fn go_on(state: &mut State, stepped: Stepped) -> Reply
     }
 }
 
-// The answer to a request that comes to this change: in place, where nothing responds.
+// The answer to a request that comes to this change, to which nothing responds: in place, where no review is kept before or
+// after it.
+fn enter_alone(state: &mut State, change: &Change, entry: Entry) -> Result<Reply, Memory>
+    requires named { IsNamed state.old.graph change.now }
+    requires asked { proposed (state_of state.old) entry.request ≡ entered (state_of state.old) None change.now }
+    ensures ok { IfOk result (HasAnswered state.old state.new entry) }
+    ensures err { OnErr result (state.new ≡ state.old) }
+{
+    if state.graph().kept().is_empty() && !keeps(change) {
+        return enter(state, change, entry);
+    }
+    state.share()?;
+    let stepped = enter_in_draft(state, change, entry)?;
+    Ok(go_on(state, stepped))
+}
+
+// The answer to a request that comes to this change: in place, where nothing responds and no review is kept.
 fn enter_by(
     state: &mut State,
     change: &Change,
@@ -67,7 +87,7 @@ fn enter_by(
     ensures err { OnErr result (state.new ≡ state.old) }
 {
     match awaited(state.graph(), by, change) {
-        None => enter(state, change, entry),
+        None => enter_alone(state, change, entry),
         Some(event) => {
             state.share()?;
             let stepped = respond_to_change(state, change, &event, entry)?;
@@ -129,14 +149,21 @@ fn grant(
 
 /// The machine's answer to a request in this state, which goes on by it. Where the request is accepted, the
 /// state has it as the entry of this seat with this number. Where it isn't, and on Memory, the state is as
-/// before; `version` never answers Memory, nor does an access to which no obligation responds.
+/// before; `version` never answers Memory, nor does an access to which no obligation responds. A `survey` may
+/// start threads, which end within the call.
 #[tactic(auto, using(crate::proofs::Glancing::free_asks))]
-pub fn advance(state: &mut State, seat: u32, nth: u64, request: &Request) -> Result<Reply, Memory>
+pub fn advance<R: Threads + Sync>(
+    rt: &R,
+    state: &mut State,
+    seat: u32,
+    nth: u64,
+    request: &Request,
+) -> Result<Reply, Memory>
     ensures ok { IfOk result (HasAnswered state.old state.new (record { seat = seat; nth = nth; request = request.now })) }
     ensures err { OnErr result (state.new ≡ state.old) }
     ensures free { asks_freely request.now.body ≡ true → none_responded (proposed (state_of state.old) request.now).reply ≡ true → IsOk result }
 {
-    match propose(state, request) {
+    match propose(rt, state, request) {
         Ok(Proposal::Told(reply)) => Ok(reply),
         Ok(Proposal::Granted(event)) => grant(state, &event, seat, nth, request),
         Ok(Proposal::Change { change, by }) => {
@@ -149,12 +176,18 @@ pub fn advance(state: &mut State, seat: u32, nth: u64, request: &Request) -> Res
 
 /// The machine's answer to a request in this state, which stays: [`advance`] on a copy of it. The copy shares
 /// the pages and entries that the state lets copies share, so that it costs little once `State::share` was
-/// called.
-pub fn step(state: &State, seat: u32, nth: u64, request: &Request) -> Result<Stepped, Memory>
+/// called. A `survey` may start threads, which end within the call.
+pub fn step<R: Threads + Sync>(
+    rt: &R,
+    state: &State,
+    seat: u32,
+    nth: u64,
+    request: &Request,
+) -> Result<Stepped, Memory>
     ensures { IfOk result (IsStep state.now (record { seat = seat; nth = nth; request = request.now })) }
 {
     let mut next = state.copy()?;
-    let reply = advance(&mut next, seat, nth, request)?;
+    let reply = advance(rt, &mut next, seat, nth, request)?;
     if next.version() == state.version() {
         return Ok(Stepped::Answered(reply));
     }

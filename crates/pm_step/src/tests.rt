@@ -1,7 +1,9 @@
 //! Requests from the opening state on, with answers worked out by hand.
 
 use crate::{Glance, Solo, Stepped, glance, step};
-use Told::{Ahead, Done, Fired, Granted, Listed, Process, Refused, Session, Stopped};
+use Told::{
+    Ahead, Changed, Done, Fired, Granted, Kept, Listed, Process, Refused, Session, Stopped,
+};
 use pm_model::{
     Body, Command, Memory, Name, NameList, Question, Reason, Refusal, Reply, Request, Shown,
 };
@@ -9,8 +11,10 @@ use pm_state::State;
 use std::alloc::Global;
 use std::process::Abort;
 use std::test::Fail;
+use std::thread::Threads;
 
 mod responding;
+mod settling;
 
 // What a reply tells.
 #[derive(Clone, Copy, Debug, PartialEq, Eq)]
@@ -18,11 +22,15 @@ enum Told {
     Done,
     Session(u32),
     Process(u32),
+    // A review is kept by this number.
+    Kept(u32),
     Granted,
     // An entry to which so many obligations responded.
     Fired(u32),
     // A review's list of so many.
     Listed(usize),
+    // The entry of this version changed so much in a kept review.
+    Changed(u64, usize),
     Ahead,
     Refused(&'static str),
     // The action of this number was refused.
@@ -38,6 +46,7 @@ fn word(why: &Refusal) -> &'static str {
         } => "class",
         Refusal::NameTaken => "name_taken",
         Refusal::BadKinds => "bad_kinds",
+        Refusal::UnknownReview => "unknown_review",
         _ => "another",
     }
 }
@@ -48,11 +57,13 @@ fn what(reply: &Reply) -> Told {
             Shown::Nothing => Done,
             Shown::Session(number) => Session(*number),
             Shown::Process(number) => Process(*number),
+            Shown::Review(number) => Kept(*number),
         },
         Reply::Granted { fired: 0 } => Granted,
         Reply::Done { fired, .. } | Reply::Granted { fired } => Fired(*fired),
-        Reply::Caps { list } | Reply::Entries { list } => Listed(list.len()),
+        Reply::Caps { list } | Reply::Entries { list } | Reply::Kept { list } => Listed(list.len()),
         Reply::Survey { counts, .. } => Listed(counts.len()),
+        Reply::Changes { at, list } => Changed(*at, list.len()),
         Reply::Ahead => Ahead,
         Reply::Refused(why) => Refused(word(why)),
         Reply::ResponseRefused { action, .. } => Stopped(*action),
@@ -139,8 +150,12 @@ fn request(rt: &(impl Abort + Alloc<A = Global>), after: Option<u64>, ask: Ask) 
 }
 
 // What is told by a request from seat 7 with number 3, and the version of the next state, if any.
-fn stepped(rt: &impl Abort, state: &State, request: &Request) -> (Told, Option<u64>) {
-    match step(state, 7, 3, request).expect(rt, "memory") {
+fn stepped(
+    rt: &(impl Threads + Abort + Sync),
+    state: &State,
+    request: &Request,
+) -> (Told, Option<u64>) {
+    match step(rt, state, 7, 3, request).expect(rt, "memory") {
         Stepped::Accepted(next, reply) => (what(&reply), Some(next.version())),
         Stepped::Answered(reply) => (what(&reply), None),
     }
@@ -164,8 +179,8 @@ fn steps_from_the_opening(rt: HostRuntime) {
     }
 }
 
-fn answer(rt: &impl Abort, solo: &mut Solo, request: &Request) -> (Told, u64) {
-    let (reply, version) = solo.ask(request).expect(rt, "memory");
+fn answer(rt: &(impl Threads + Abort + Sync), solo: &mut Solo, request: &Request) -> (Told, u64) {
+    let (reply, version) = solo.ask(rt, request).expect(rt, "memory");
     (what(&reply), version)
 }
 

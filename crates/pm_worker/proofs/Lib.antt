@@ -2,3 +2,4 @@ pub mod Speaking
 pub mod Wiring
 pub mod Turning
 pub mod Talking
+pub mod Meeting

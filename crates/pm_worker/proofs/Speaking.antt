@@ -23,7 +23,7 @@ use Rattle.pm_model.specs.declared.replies.Reply.TheVariants as reply
 use Rattle.pm_model.specs.declared.replies.Reply.TheVariants.{KeepFault}
 use Rattle.pm_laws.proofs.Nameable.{answer_nameable}
 use Rattle.pm_laws.proofs.Replayed.{legal_history}
-use Rattle.pm_json.specs.Growth.{items_in, reply_most}
+use Rattle.pm_json.specs.Growth.{item_most, items_in, reply_most}
 use Rattle.pm_session.specs.Streams.{Streams}
 use Rattle.pm_session.specs.Taken.{rest_of}
 use Rattle.pm_session.proofs.LineLaws.{IsCut-cut}
@@ -228,16 +228,16 @@ unspoken-by (faulted request v) s t seat share h some = absurd (let no : ⊥ = o
 unspoken : (Q : Type 0) (s t : Seated) (w : What) (reply : Reply) (v : ℕ) → Speaks Q s t w reply v → 0 < items_in reply → Rests s t
 unspoken Q s t w reply v h some = unspoken-by h.exchange s t h.seat h.share h.hears (subst (λ (r : Reply). 0 < items_in r) h.reply_is some)
 
-listed-by : (n output capacity : ℕ) → output + 1024 ≤ capacity → (output + (1024 + 90 * n) ≤ capacity → ⊥) → 0 < n
-listed-by zero output capacity room full = absurd (full (omega arith))
-listed-by (suc n) output capacity room full = omega arith
+listed-by : (m n output capacity : ℕ) → output + 1024 ≤ capacity → (output + (1024 + m * n) ≤ capacity → ⊥) → 0 < n
+listed-by m zero output capacity room full = absurd (full (omega arith))
+listed-by m (suc n) output capacity room full = omega arith
 
 -- where its line wants more room than others do, the seat was told nothing
 pub unprinted_rests : (Q : Type 0) (s t : Seated) (w : What) (reply : Reply) (v output capacity : ℕ) (result : Result ⊤ Memory) → Speaks Q s t w reply v →
     output + 1024 ≤ capacity → (output + reply_most reply ≤ capacity → IsOk result) → OnErr result (Rests s t)
 unprinted_rests Q s t w reply v output capacity (Ok x) h room fits = tt
 unprinted_rests Q s t w reply v output capacity (Err e) h room fits =
-    unspoken Q s t w reply v h (listed-by (items_in reply) output capacity room (λ k. let no = fits k in let never : ⊥ = cc in never))
+    unspoken Q s t w reply v h (listed-by (item_most reply) (items_in reply) output capacity room (λ k. let no = fits k in let never : ⊥ = cc in never))
 
 -- ---- the line that was answered
 

@@ -18,6 +18,13 @@ pub record Works (s t : Seated) : Type 0 where
   pub grows : IsPrefix s.machine.history t.machine.history
   pub seat : t.lane.seat ≡ s.lane.seat
 
+-- a member of a crew has met the seat that is now s: its own has worked on, and its front begins that of s; its feed is as
+-- before
+pub record HasMet {F : Type 0} (s before now : Seated) (feed_before feed_now : F) : Type 0 where
+  pub works : Works before now
+  pub front : IsPrefix now.machine.history s.machine.history
+  pub feed : feed_now ≡ feed_before
+
 -- ---- a list
 
 -- the connections that go on, the number of the one that was given, those whose last turn is over, in that order, and

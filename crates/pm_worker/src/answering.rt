@@ -21,10 +21,11 @@ use pm_model::{Asked, BadLine, Keep, LineEvent, Memory, Reply, Request, What};
 use pm_session::Session;
 use std::alloc::Global;
 use std::sync::Wait;
+use std::thread::Threads;
 
 // The desk's answer.
 #[tactic(auto, using(crate::proofs::Speaking::submits_speaks))]
-fn submit<K: Keep + Drop, H: Home, R: Wait>(
+fn submit<K: Keep + Drop, H: Home, R: Threads + Wait + Sync>(
     rt: &R,
     alloc: Global,
     house: &House<K, H>,
@@ -39,7 +40,7 @@ fn submit<K: Keep + Drop, H: Home, R: Wait>(
 
 // The answer by a look, or the desk's.
 #[tactic(auto, using(crate::proofs::Speaking::looks_speaks, crate::proofs::Speaking::rests_speaks, pm_house::proofs::Sitting::rests_then))]
-fn ask<K: Keep + Drop, H: Home, R: Wait>(
+fn ask<K: Keep + Drop, H: Home, R: Threads + Wait + Sync>(
     rt: &R,
     alloc: Global,
     house: &House<K, H>,
@@ -49,7 +50,7 @@ fn ask<K: Keep + Drop, H: Home, R: Wait>(
     ensures ok { IfOk result (λ r. Speaks (NeverFails K.faults) seat.old seat.new (what.Request request.now) r.reply r.version) }
     ensures err { OnErr result (Rests seat.old seat.new) }
 {
-    match seat.look(request) {
+    match seat.look(rt, request) {
         Ok(Looked::Answer { reply, version }) => Ok(Replied { reply, version }),
         Ok(Looked::GoDesk) => submit(rt, alloc, house, seat, request),
         Err(Memory) => Err(Memory),
@@ -70,7 +71,7 @@ fn bad<H: Home>(seat: &mut Seat<H>, bad: &BadLine) -> Replied
 
 // The seat's answer to what is asked.
 #[tactic(auto, using(crate::proofs::Speaking::speaks_always))]
-fn speak<K: Keep + Drop, H: Home, R: Wait>(
+fn speak<K: Keep + Drop, H: Home, R: Threads + Wait + Sync>(
     rt: &R,
     alloc: Global,
     house: &House<K, H>,
@@ -115,7 +116,7 @@ fn known<H: Home>(seat: &Seat<H>)
 // Answers what was asked. With room for the reply there is no want of memory once the seat has answered, but for a
 // review's list, which the seat was told of nothing for.
 #[tactic(auto, using(crate::proofs::Speaking::speaks_nameable, crate::proofs::Speaking::speaks_replies, crate::proofs::Speaking::unprinted_rests))]
-fn answer<K: Keep + Drop, H: Home, R: Wait>(
+fn answer<K: Keep + Drop, H: Home, R: Threads + Wait + Sync>(
     rt: &R,
     alloc: Global,
     house: &House<K, H>,
@@ -163,7 +164,7 @@ fn take(alloc: Global, session: &mut Session) -> Result<Option<Asked>, Memory>
 
 /// Answers the first line that waits, and says whether there was one. On Memory it may wait no more, and
 /// the seat was told nothing: its request wasn't accepted.
-pub(crate) fn answer_line<K: Keep + Drop, H: Home, G: Gate, R: Wait>(
+pub(crate) fn answer_line<K: Keep + Drop, H: Home, G: Gate, R: Threads + Wait + Sync>(
     rt: &R,
     alloc: Global,
     house: &House<K, H>,

@@ -1,7 +1,8 @@
 //! Workers in threads of their own.
 
 ghost use Rattle.std.specs.Prelude.{◌≡◌, ◌<◌, ℕ, None, true, All, length, slice_index_or};
-ghost use Rattle.pm_worker.specs.Feeding.{Works};
+ghost use mathlib.Core.List.{IsPrefix};
+ghost use Rattle.pm_worker.specs.Feeding.{Works, HasMet};
 
 use crate::feeds::{Feed, work};
 use crate::gates::Gate;
@@ -26,7 +27,7 @@ where
     pub feed: F,
 }
 
-fn work_one<L: Link + Drop, K: Keep + Drop, H: Home, G: Gate, F: Feed<L>, R: Wait>(
+fn work_one<L: Link + Drop, K: Keep + Drop, H: Home, G: Gate, F: Feed<L>, R: Threads + Wait + Sync>(
     rt: &R,
     alloc: Global,
     house: &House<K, H>,
@@ -40,9 +41,8 @@ fn work_one<L: Link + Drop, K: Keep + Drop, H: Home, G: Gate, F: Feed<L>, R: Wai
     work(rt, alloc, house, &mut member.seat, &mut member.feed, gate)
 }
 
-/// Each member works in a thread of its own, until its feed has stopped; where no thread can be made, members work one
-/// after another.
-pub fn run_workers<
+// Each member works, until its feed has stopped.
+fn work_all<
     L: Link + Drop + Send,
     K: Keep + Drop + Send,
     H: Home + Send + Sync,
@@ -51,6 +51,7 @@ pub fn run_workers<
     R: Threads + Wait + Sync,
 >(rt: &R, alloc: Global, house: &House<K, H>, crew: &mut [Crew<F, H>], gate: &G)
     requires { All (λ m. F.out m.feed ≡ None) crew.old }
+    ensures count { length crew.new ≡ length crew.old }
     ensures stopped { (i : ℕ) (d : _) → i < length crew.old → F.stopped (slice_index_or crew.new i d).feed ≡ true }
     ensures works { (i : ℕ) (d : _) → i < length crew.old → Works (slice_index_or crew.old i d).seat (slice_index_or crew.new i d).seat }
 {
@@ -64,4 +65,54 @@ pub fn run_workers<
             ensures works { Works member.old.seat member.new.seat }
         { work_one(rt, alloc, house, gate, member) },
     );
+}
+
+// One seat meets each member's.
+fn meet_each<K: Keep + Drop, H: Home, F, R: Wait>(
+    rt: &R,
+    house: &House<K, H>,
+    first: &mut Seat<H>,
+    others: &mut [Crew<F, H>],
+)
+    ensures first { Works first.old first.new }
+    ensures count { length others.new ≡ length others.old }
+    ensures met { (i : ℕ) (d : _) → i < length others.old → HasMet first.new (slice_index_or others.old i d).seat (slice_index_or others.new i d).seat (slice_index_or others.old i d).feed (slice_index_or others.new i d).feed }
+{
+    for place in 0..others.len() {
+        house.meet(rt, first, &mut others[place].seat);
+    }
+}
+
+// The first member's seat meets each other member's.
+fn meet_all<K: Keep + Drop, H: Home, F, R: Wait>(
+    rt: &R,
+    house: &House<K, H>,
+    crew: &mut [Crew<F, H>],
+)
+    ensures count { length crew.new ≡ length crew.old }
+    ensures met { (i : ℕ) (d : _) → i < length crew.old → HasMet (slice_index_or crew.new 0 d).seat (slice_index_or crew.old i d).seat (slice_index_or crew.new i d).seat (slice_index_or crew.old i d).feed (slice_index_or crew.new i d).feed }
+{
+    if let Some((first, others)) = crew.split_first_mut() {
+        meet_each(rt, house, &mut first.seat, others);
+    }
+}
+
+/// Each member works in a thread of its own, until its feed has stopped; where no thread can be made, members work one
+/// after another. Once all have ended, the first member's seat meets each other one's, so that what each shows begins what
+/// the first one shows.
+pub fn run_workers<
+    L: Link + Drop + Send,
+    K: Keep + Drop + Send,
+    H: Home + Send + Sync,
+    G: Gate + Send + Sync,
+    F: Feed<L> + Send + Drop,
+    R: Threads + Wait + Sync,
+>(rt: &R, alloc: Global, house: &House<K, H>, crew: &mut [Crew<F, H>], gate: &G)
+    requires { All (λ m. F.out m.feed ≡ None) crew.old }
+    ensures stopped { (i : ℕ) (d : _) → i < length crew.old → F.stopped (slice_index_or crew.new i d).feed ≡ true }
+    ensures works { (i : ℕ) (d : _) → i < length crew.old → Works (slice_index_or crew.old i d).seat (slice_index_or crew.new i d).seat }
+    ensures met { (i : ℕ) (d : _) → i < length crew.old → IsPrefix (slice_index_or crew.new i d).seat.machine.history (slice_index_or crew.new 0 d).seat.machine.history }
+{
+    work_all(rt, alloc, house, crew, gate);
+    meet_all(rt, house, crew);
 }

@@ -15,6 +15,7 @@ use pm_io::Link;
 use pm_model::Keep;
 use std::alloc::Global;
 use std::sync::Wait;
+use std::thread::Threads;
 
 /// What a feed gives.
 pub enum Next<L> {
@@ -47,7 +48,7 @@ pub trait Feed<L: Link> {
 }
 
 /// Serves what a feed gives, until it stops.
-pub fn work<L: Link + Drop, K: Keep + Drop, H: Home, G: Gate, F: Feed<L>, R: Wait>(
+pub fn work<L: Link + Drop, K: Keep + Drop, H: Home, G: Gate, F: Feed<L>, R: Threads + Wait + Sync>(
     rt: &R,
     alloc: Global,
     house: &House<K, H>,

@@ -16,9 +16,10 @@ use pm_model::{Keep, Memory};
 use pm_session::Session;
 use std::alloc::Global;
 use std::sync::Wait;
+use std::thread::Threads;
 
 // A turn over a link and a session.
-fn serve<L: Link, K: Keep + Drop, H: Home, G: Gate, R: Wait>(
+fn serve<L: Link, K: Keep + Drop, H: Home, G: Gate, R: Threads + Wait + Sync>(
     rt: &R,
     alloc: Global,
     house: &House<K, H>,
@@ -68,8 +69,8 @@ fn serve<L: Link, K: Keep + Drop, H: Home, G: Gate, R: Wait>(
     }
 }
 
-/// One turn of a connection.
-pub fn serve_turn<L: Link, K: Keep + Drop, H: Home, G: Gate, R: Wait>(
+/// One turn of a connection. A `survey` among its lines may start threads, which end within the turn.
+pub fn serve_turn<L: Link, K: Keep + Drop, H: Home, G: Gate, R: Threads + Wait + Sync>(
     rt: &R,
     alloc: Global,
     house: &House<K, H>,

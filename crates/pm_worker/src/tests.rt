@@ -2,8 +2,10 @@
 
 ghost use Rattle.std.specs.Prelude.{◌≡◌, [], IfSome};
 
+mod crews;
+
 use crate::{Conn, Gate, OpenGate, Phase, Turn, serve_turn};
-use pm_house::{Home, House, Seat, house_room, opening_room};
+use pm_house::{Home, House, Seat, house_room};
 use pm_io::{MemKeep, MemLink, NoKeep};
 use pm_model::Keep;
 use pm_publish::Opened;
@@ -13,6 +15,7 @@ use std::process::Abort;
 use std::sync::Wait;
 use std::sync::atomic::{AtomicU32, Ordering};
 use std::sync::ledger::Blank;
+use std::thread::Threads;
 
 // The house of one seat, and its seat.
 fn house_of_one<K: Keep + Drop, H: Home, R: Abort + Alloc<A = Global>>(
@@ -26,14 +29,13 @@ fn house_of_one<K: Keep + Drop, H: Home, R: Abort + Alloc<A = Global>>(
     requires seats { (H.all ≡ 1) × (H.parts ≡ 1) }
     requires keeper { IfSome (K.kept keeper) (λ es. es ≡ []) }
 {
-    let room = opening_room::<H>(rt.alloc(), opened, 1).expect(rt, "memory");
-    let (house, mut seats) = House::new(rt.alloc(), room, blank, keeper, 1).expect(rt, "memory");
+    let (house, mut seats) = House::open(rt.alloc(), opened, blank, keeper, 1).expect(rt, "memory");
     let seat = seats.seat(0).expect(rt, "seat 0");
     (house, seat)
 }
 
 // The turns of a connection over this link end so, one after another; it comes back.
-fn served<K: Keep + Drop, H: Home, R: Wait + Abort + Alloc<A = Global>>(
+fn served<K: Keep + Drop, H: Home, R: Threads + Wait + Abort + Alloc<A = Global> + Sync>(
     rt: &R,
     house: &House<K, H>,
     seat: &mut Seat<H>,
@@ -57,7 +59,11 @@ const TOLD: &[u8] = b"{\"ok\":\"done\",\"v\":0}\n";
 
 // A line is read, its reply written, and the end read: which of the three calls can do nothing and which fail, and how the
 // turns end then, with what was taken and what is still to be sent.
-fn one_line<H: Home, R: Wait + Abort + Alloc<A = Global>>(rt: &R, opened: Opened, blank: Blank)
+fn one_line<H: Home, R: Threads + Wait + Abort + Alloc<A = Global> + Sync>(
+    rt: &R,
+    opened: Opened,
+    blank: Blank,
+)
     requires room { opened ≡ H.book }
     requires ledger { (blank.name ≡ H.name) × (blank.parts ≡ H.parts) }
     requires seats { (H.all ≡ 1) × (H.parts ≡ 1) }
@@ -110,7 +116,11 @@ impl Gate for Passes {
     }
 }
 
-fn mixed<H: Home, R: Wait + Abort + Alloc<A = Global>>(rt: &R, opened: Opened, blank: Blank)
+fn mixed<H: Home, R: Threads + Wait + Abort + Alloc<A = Global> + Sync>(
+    rt: &R,
+    opened: Opened,
+    blank: Blank,
+)
     requires room { opened ≡ H.book }
     requires ledger { (blank.name ≡ H.name) × (blank.parts ≡ H.parts) }
     requires seats { (H.all ≡ 1) × (H.parts ≡ 1) }
@@ -147,7 +157,11 @@ const FREE: &[u8] =
 const FREELY: &[u8] =
     b"{\"id\":4,\"ok\":\"done\",\"v\":0}\n{\"no\":\"not_json\",\"v\":0}\n{\"list\":[],\"ok\":\"caps\",\"v\":0}\n{\"no\":\"not_request\",\"v\":0}\n";
 
-fn pieces<H: Home, R: Wait + Abort + Alloc<A = Global>>(rt: &R, opened: Opened, blank: Blank)
+fn pieces<H: Home, R: Threads + Wait + Abort + Alloc<A = Global> + Sync>(
+    rt: &R,
+    opened: Opened,
+    blank: Blank,
+)
     requires room { opened ≡ H.book }
     requires ledger { (blank.name ≡ H.name) × (blank.parts ≡ H.parts) }
     requires seats { (H.all ≡ 1) × (H.parts ≡ 1) }

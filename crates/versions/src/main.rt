@@ -13,6 +13,7 @@ use std::alloc::Global;
 use std::env;
 use std::env::Args;
 use std::process::ExitCode;
+use std::thread::Threads;
 
 /// The next word as a number, or 0.
 fn number(args: &mut Args) -> u32 {
@@ -35,17 +36,27 @@ fn change(n: u32, elements: u32) -> Option<Command> {
 }
 
 /// The version after this one, which shares what it can with it; None where the change is refused.
-fn next(state: &mut State, command: Command) -> Result<Option<State>, Memory> {
+fn next<R: Threads + Sync>(
+    rt: &R,
+    state: &mut State,
+    command: Command,
+) -> Result<Option<State>, Memory> {
     state.share()?;
     let nth = state.version() + 1;
-    match step(state, 0, nth, &admin(command))? {
+    match step(rt, state, 0, nth, &admin(command))? {
         Stepped::Accepted(next, _reply) => Ok(Some(next)),
         Stepped::Answered(_reply) => Ok(None),
     }
 }
 
 /// The versions that the changes make, each of the one before; it stops at a change that is refused.
-fn versions(alloc: Global, first: State, elements: u32, count: u32) -> Result<Vec<State>, Memory> {
+fn versions<R: Threads + Sync>(
+    rt: &R,
+    alloc: Global,
+    first: State,
+    elements: u32,
+    count: u32,
+) -> Result<Vec<State>, Memory> {
     let mut versions = vec![in alloc; first]?;
     for n in 0..count {
         let Some(command) = change(n, elements) else {
@@ -54,7 +65,7 @@ fn versions(alloc: Global, first: State, elements: u32, count: u32) -> Result<Ve
         let Some(last) = versions.last_mut() else {
             break;
         };
-        let Some(state) = next(last, command)? else {
+        let Some(state) = next(rt, last, command)? else {
             break;
         };
         versions.push(state)?;
@@ -63,21 +74,25 @@ fn versions(alloc: Global, first: State, elements: u32, count: u32) -> Result<Ve
 }
 
 /// How many elements and versions there are.
-fn measure(rt: &HostRuntime) -> Result<(usize, usize), Memory> {
-    let Ok(mut args) = env::args(rt) else {
-        return Err(Memory);
-    };
-    let _name = args.next();
-    let elements = number(&mut args);
-    let count = number(&mut args);
-    let first = policy(rt.alloc(), elements)?;
+fn measure<R: Threads + AllocGlobal + Sync>(
+    rt: &R,
+    elements: u32,
+    count: u32,
+) -> Result<(usize, usize), Memory> {
+    let first = policy(rt, rt.alloc(), elements)?;
     let held = first.graph().elements().len();
-    let versions = versions(rt.alloc(), first, elements, count)?;
+    let versions = versions(rt, rt.alloc(), first, elements, count)?;
     Ok((held, versions.len()))
 }
 
 fn main(rt: HostRuntime) -> ExitCode {
-    match measure(&rt) {
+    let Ok(mut args) = env::args(&rt) else {
+        return ExitCode::FAILURE;
+    };
+    let _name = args.next();
+    let elements = number(&mut args);
+    let count = number(&mut args);
+    match measure(&rt, elements, count) {
         Ok((elements, versions)) => {
             let _ = println!(rt; "{elements} elements, {versions} versions");
             ExitCode::SUCCESS

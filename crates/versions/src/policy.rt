@@ -4,6 +4,7 @@ use pm_model::{Body, Command, Kind, Memory, Name, Request};
 use pm_state::State;
 use pm_step::advance;
 use std::alloc::Global;
+use std::thread::Threads;
 
 /// `e` and the six digits of a number.
 pub(crate) fn element_name(n: u32) -> Option<Name> {
@@ -48,24 +49,28 @@ fn create(n: u32) -> Option<Command> {
     })
 }
 
-fn enter(state: &mut State, command: Command) -> Result<(), Memory> {
+fn enter<R: Threads + Sync>(rt: &R, state: &mut State, command: Command) -> Result<(), Memory> {
     let request = admin(command);
     let nth = state.version() + 1;
-    match advance(state, 0, nth, &request) {
+    match advance(rt, state, 0, nth, &request) {
         Ok(_reply) => Ok(()),
         Err(Memory) => Err(Memory),
     }
 }
 
 /// The state with a policy of so many elements beside those of the opening.
-pub(crate) fn policy(alloc: Global, elements: u32) -> Result<State, Memory> {
+pub(crate) fn policy<R: Threads + Sync>(
+    rt: &R,
+    alloc: Global,
+    elements: u32,
+) -> Result<State, Memory> {
     let mut state = State::opening(alloc)?;
     if let Some(name) = class_name() {
-        enter(&mut state, Command::CreatePc { name })?;
+        enter(rt, &mut state, Command::CreatePc { name })?;
     }
     for n in 0..elements {
         if let Some(command) = create(n) {
-            enter(&mut state, command)?;
+            enter(rt, &mut state, command)?;
         }
     }
     Ok(state)

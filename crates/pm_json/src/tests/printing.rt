@@ -1,8 +1,8 @@
 //! Replies, and their lines.
 use crate::{longest, print_bad, print_reply};
 use pm_model::{
-    BadLine, CountList, ElementId, Key, Name, NameOf, Pair, PairList, Reason, Refusal, Reply,
-    Rights, Shown, Table, UserList,
+    BadLine, ChangeList, Changed, CountList, ElementId, Key, Name, NameOf, Pair, PairList, Reason,
+    Refusal, Reply, Rights, Shown, Table, UserList,
 };
 use std::alloc::Global;
 use std::process::Abort;
@@ -79,6 +79,7 @@ static DONE: &[(u32, Shown, &str)] = &[
     (0, Shown::Nothing, r#"{"ok":"done","v":17}"#),
     (0, Shown::Session(1), r#"{"ok":"done","session":1,"v":17}"#),
     (0, Shown::Process(2), r#"{"ok":"done","process":2,"v":17}"#),
+    (0, Shown::Review(0), r#"{"ok":"done","review":0,"v":17}"#),
     (3, Shown::Nothing, r#"{"fired":3,"ok":"done","v":17}"#),
 ];
 
@@ -120,6 +121,7 @@ static WORDS: &[&str] = &[
     "last_container",
     "builtin",
     "empty_range",
+    "unknown_review",
 ];
 
 fn refusal(i: usize) -> Refusal {
@@ -135,7 +137,8 @@ fn refusal(i: usize) -> Refusal {
         8 => Refusal::InUse,
         9 => Refusal::LastContainer,
         10 => Refusal::Builtin,
-        _ => Refusal::EmptyRange,
+        11 => Refusal::EmptyRange,
+        _ => Refusal::UnknownReview,
     }
 }
 
@@ -178,6 +181,7 @@ static TABLES: &[(Table, &str)] = &[
     (Table::Obligations, "obligations"),
     (Table::Sessions, "sessions"),
     (Table::Processes, "processes"),
+    (Table::Reviews, "reviews"),
     (Table::Rights, "rights"),
     (Table::History, "history"),
 ];
@@ -239,7 +243,32 @@ fn reviews_tell_names(rt: HostRuntime) -> Result<(), Fail> {
     prints(&rt, Some(3), &Reply::Caps { list }, told)?;
     let list = PairList::new(rt.alloc());
     let told = r#"{"list":[],"ok":"entries","v":17}"#;
-    prints(&rt, None, &Reply::Entries { list }, told)
+    prints(&rt, None, &Reply::Entries { list }, told)?;
+    let mut list = PairList::new(rt.alloc());
+    list.push(Pair {
+        element: ElementId(0),
+        rights: Rights(10),
+    })?;
+    let told = r#"{"list":[["files","a"]],"ok":"kept","v":17}"#;
+    prints(&rt, None, &Reply::Kept { list }, told)
+}
+
+#[test]
+fn last_changes_tell_both_sets(rt: HostRuntime) -> Result<(), Fail> {
+    let mut list = ChangeList::new(rt.alloc());
+    for (old, new) in [(0, 1), (18446744073709551615, 18446744073709551614)] {
+        list.push(Changed {
+            name: Name::new(b"memo").ok_or("a name")?,
+            old: Rights(old),
+            new: Rights(new),
+        })?;
+    }
+    let told =
+        r#"{"at":9,"id":3,"list":[["memo","0","1"],["memo","ffffffffffffffff","fffffffffffffffe"]],"ok":"changes","v":17}"#;
+    prints(&rt, Some(3), &Reply::Changes { at: 9, list }, told)?;
+    let list = ChangeList::new(rt.alloc());
+    let told = r#"{"at":0,"list":[],"ok":"changes","v":17}"#;
+    prints(&rt, None, &Reply::Changes { at: 0, list }, told)
 }
 
 #[test]

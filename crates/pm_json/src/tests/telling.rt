@@ -1,5 +1,7 @@
 //! What a line asks, in words. Of a response how many actions it has.
-use pm_model::{Asked, Body, Command, Name, NameList, Question, Request, Subject, What, When};
+use pm_model::{
+    Asked, Body, Command, Name, NameList, Question, Request, ReviewOf, Subject, What, When,
+};
 use std::alloc::{AllocError, Global};
 
 fn shown(name: &Name) -> &str {
@@ -34,6 +36,13 @@ fn pattern_told(name: &Option<Name>) -> &str {
 fn event_told(alloc: Global, when: &When) -> Result<String, AllocError> {
     let (user, target) = (pattern_told(&when.user), pattern_told(&when.target));
     format!(in alloc; "{} {user} {target}", shown(&when.on))
+}
+
+fn kept_told(alloc: Global, of: &ReviewOf<Name>) -> Result<String, AllocError> {
+    match of {
+        ReviewOf::Caps(user) => format!(in alloc; "caps {}", shown(user)),
+        ReviewOf::Entries(element) => format!(in alloc; "entries {}", shown(element)),
+    }
 }
 
 // Of commands that list something.
@@ -89,6 +98,11 @@ fn command_told(alloc: Global, command: &Command) -> Result<String, AllocError> 
         Command::Lift { name } => format!(in alloc; "lift {}", shown(name)),
         Command::DefineRight { name } => format!(in alloc; "define_right {}", shown(name)),
         Command::Withdraw { name } => format!(in alloc; "withdraw {}", shown(name)),
+        Command::Keep { of } => {
+            let of = kept_told(alloc, of)?;
+            format!(in alloc; "keep {of}")
+        }
+        Command::DropReview { review } => format!(in alloc; "drop_review {review}"),
         _ => listing_told(alloc, command),
     }
 }
@@ -101,6 +115,8 @@ fn question_told(alloc: Global, question: &Question) -> Result<String, AllocErro
             let users = names_told(alloc, users)?;
             format!(in alloc; "survey {users}")
         }
+        Question::Kept { review } => format!(in alloc; "kept {review}"),
+        Question::Changes { review } => format!(in alloc; "changes {review}"),
     }
 }
 

@@ -5,7 +5,7 @@ use pm_model::{Act, Action, ActionList, Awaited, GuardList, Kind, Response, Term
 
 // What an action does: it makes a user attribute of a new name in `pm_admins`; it deletes `pm`, which can't be.
 #[derive(Clone, Copy)]
-enum Deed {
+pub(super) enum Deed {
     Make,
     Spoil,
 }
@@ -36,7 +36,12 @@ fn response(rt: &(impl Abort + Alloc<A = Global>), deeds: &[Deed]) -> Response {
 }
 
 // Let this be done, by root's authority, whenever such an event is raised on what is in `pm_admins`.
-fn oblige(rt: &(impl Abort + Alloc<A = Global>), name: &str, on: &str, deeds: &[Deed]) -> Request {
+pub(super) fn oblige(
+    rt: &(impl Abort + Alloc<A = Global>),
+    name: &str,
+    on: &str,
+    deeds: &[Deed],
+) -> Request {
     let when = When {
         on: named(rt, on),
         user: None,
@@ -62,8 +67,8 @@ fn withdraw(rt: &impl Abort, name: &str) -> Request {
 }
 
 // What a look at the state tells; None where the desk is needed.
-fn glanced(rt: &impl Abort, solo: &Solo, request: &Request) -> Option<Told> {
-    match glance(solo.state(), request).expect(rt, "memory") {
+fn glanced(rt: &(impl Threads + Abort + Sync), solo: &Solo, request: &Request) -> Option<Told> {
+    match glance(rt, solo.state(), request).expect(rt, "memory") {
         Glance::Answer(reply) => Some(what(&reply)),
         Glance::NeedsDesk => None,
     }
@@ -75,7 +80,10 @@ fn has(rt: &impl Abort, solo: &Solo, name: &str) -> bool {
 }
 
 // What comes of root's reading itself, first by a look.
-fn reading(rt: &(impl Abort + Alloc<A = Global>), solo: &mut Solo) -> (Option<Told>, Told, u64) {
+pub(super) fn reading(
+    rt: &(impl Threads + Abort + Alloc<A = Global> + Sync),
+    solo: &mut Solo,
+) -> (Option<Told>, Told, u64) {
     let request = request(rt, None, Ask::Read(0, "root"));
     let seen = glanced(rt, solo, &request);
     let (came, version) = answer(rt, solo, &request);

@@ -5,7 +5,7 @@ use Rattle.ngac.proofs.Listed.{unprinted_leaves}
 use Rattle.ngac.proofs.lines.answer.Goals as goal
 
 pub returns-clause-err : goal.returns-clause-err
-returns-clause-err c =
+returns-clause-err g c =
     let told = c.in-Ok.ensures.ok in
     unprinted_leaves (state_of c.args.solo.now) (state_of c.ask.new.self) c.in-Request.request c.in-Ok.told.0
     (length c.args.session.now.output) c.args.session.now.capacity c.reply.result

@@ -2,7 +2,7 @@ use Rattle.pm_model.specs.State.{classes_in}
 use Rattle.pm_model.specs.Containment.{contained}
 use Rattle.pm_model.specs.Decision.{associations_of}
 use Rattle.pm_laws.proofs.Live.{classes-live}
-use Rattle.pm_admin.proofs.Granting.{table-live, bars-live}
+use Rattle.pm_state.proofs.Granting.{table-live, bars-live}
 use Rattle.pm_admin.proofs.Reasons.{reason-is, verdict-placed}
 use Rattle.pm_admin.proofs.denials.reason.Goals as goal
 

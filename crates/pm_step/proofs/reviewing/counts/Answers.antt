@@ -1,20 +1,19 @@
-use Rattle.std.proofs.Common.{refl}
-use Rattle.std.proofs.lemmas.Option.{slice_get_read}
+use Rattle.std.proofs.Common.{arith}
 use Rattle.pm_model.specs.Formed.{IsLive}
-use Rattle.pm_model.specs.Reviews.{count_held, numbers_in, rights_in}
-use Rattle.pm_laws.proofs.Items.{each-at, get-contains}
-use Rattle.pm_step.proofs.Listing.{counts-more}
+use Rattle.pm_model.specs.Reviews.{numbers_in}
+use Rattle.pm_laws.proofs.Items.{each-all}
+use Rattle.pm_laws.proofs.Reviewed.{elements_live}
+use Rattle.pm_state.proofs.Listing.{few-elements}
 use Rattle.pm_step.proofs.reviewing.counts.Goals as goal
 
-pub count-requires-clause-user : goal.count-requires-clause-user
-count-requires-clause-user c =
-    each-at (IsLive c.args.graph.now.elements) c.args.users.now c.user-item.result c.requires
-    (get-contains c.args.users.now c.loop-user.user-index c.user-item.result
-    (rw c.as_slice-user-items.ensures at (slice_get_read _ _ _ _ refl c.loop-user-test.true c.user-item.is)))
+pub bulk-requires-clause-users : goal.bulk-requires-clause-users
+bulk-requires-clause-users g c κs lives = rw (c.new-judge.ensures.graph) (each-all (IsLive c.args.graph.now.elements) c.args.users.now c.requires)
 
-pub loop-user-preserved : goal.loop-user-preserved
-loop-user-preserved c =
+pub bulk-requires-clause-elements : goal.bulk-requires-clause-elements
+bulk-requires-clause-elements g c κs lives =
     let G = c.args.graph.now in
-    rw (c.in_ok-push.ensures.ok, c.count.ensures, c.in_ok-elements.ensures)
-    (counts-more (count_held (rights_in G) (numbers_in G.elements)) c.args.users.now c.loop-user.counts c.loop-user.user-index c.user-item.result
-    c.loop-user.invariant (rw c.as_slice-user-items.ensures at (slice_get_read _ _ _ _ refl c.loop-user-test.true c.user-item.is)))
+    rw (c.new-judge.ensures.graph, c.in_ok-elements.ensures)
+    (each-all (IsLive G.elements) (numbers_in G.elements) (elements_live G c.formed.ensures))
+
+pub bulk-requires-clause-few : goal.bulk-requires-clause-few
+bulk-requires-clause-few g c = rw (c.in_ok-elements.ensures) (omega (arith, few-elements c.args.graph.now c.formed.ensures))

@@ -2,8 +2,13 @@ use Rattle.std.proofs.Common.{subst}
 use Rattle.pm_model.specs.Effect.{IsCause}
 use Rattle.pm_model.specs.Answer.{refusal_in}
 use Rattle.pm_model.specs.History.{state_of}
-use Rattle.pm_step.proofs.Stepping.{refused-answered}
+use Rattle.pm_step.proofs.Stepping.{made-answered, refused-answered}
 use Rattle.pm_step.proofs.steps.enter.Goals as goal
+
+pub returns-in-Ok-clause-ok : goal.returns-in-Ok-clause-ok
+returns-in-Ok-clause-ok c =
+    made-answered c.args.state.now c.enter.new.self c.args.entry c.args.change.now c.done.result c.requires.asked c.requires.none
+    c.in-Ok.ensures.ok c.in-Ok.ensures.room c.in-Ok.ensures.history (rw (c.in-Ok.ensures.made) at c.done.ensures)
 
 pub returns-in-Err-Refused-clause-ok : goal.returns-in-Err-Refused-clause-ok
 returns-in-Err-Refused-clause-ok c =

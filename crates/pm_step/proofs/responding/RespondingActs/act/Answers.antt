@@ -37,7 +37,7 @@ invariant_of-self c =
     let done = acted-is s.names s.version obligations s.places.now s.draft.graph c.args.place c.at-at.result.now c.at-obligation.result.now
     c.at-at.ensures c.at-obligation.ensures c.at-action.result.now c.self.invariant asked in
     responders-stay-either s.names s.version obligations s.places.now s.draft.graph c.args.place c.act_by.result s.draft c.act_by.new.draft refl
-    (rw done c.act_by.ensures.ok) c.act_by.ensures.err c.self.invariant
+    (rw done c.act_by.ensures.ok) (rw done c.act_by.ensures.err) c.self.invariant
     (subst (λ (u : Underway). IsTurn u.occasion u.machine.graph c.args.place) (sym c.self.view_is) c.requires)
 
 pub returns-clause-ok : goal.returns-clause-ok

@@ -1,0 +1,15 @@
+use Rattle.std.proofs.Common.{◌≡◌, ◌<◌, ◌≤◌, ℕ, Ok, Err}
+use Rattle.std.specs.Prelude.{Result, String}
+use Rattle.std.specs.declared.alloc.Global.{Global}
+use Rattle.std.specs.declared.io.Error.{Error}
+use Rattle.std.specs.declared.vec.IntoIter.{IntoIter}
+use Rattle.ngac.specs.Words.{AskServe}
+use Rattle.ngac.proofs.main.Goals as goal
+
+-- a server that is asked for has as many workers as it may have
+enough : (args : Result (IntoIter (String Global) Global) Error) (port workers : ℕ) → AskServe args port workers → (0 < workers) × (workers ≤ 32)
+enough (Ok words) port workers asked = (asked.some, asked.most)
+enough (Err e) port workers asked = absurd asked
+
+pub serve-status-requires-after_bounds : goal.serve-status-requires-after_bounds
+serve-status-requires-after_bounds g c κs = enough c.args-args.result c.in-Serve.port c.in-Serve.workers ((c.top.ensures.serve c.in-Serve.port c.in-Serve.workers).0 c.in-Serve.is)

@@ -1,7 +1,0 @@
--- The answer is that of the places that are left.
-use Rattle.pm_model.specs.Authority.{to_prohibit_to}
-use Rattle.pm_admin.proofs.FirstDenied.{IsLeft}
-use Rattle.pm_admin.proofs.capabilities.denied_on_places.Given as goal
-
-abbrev pub invariant-loop-i : goal.invariant-loop-i
-invariant-loop-i l = IsLeft l.fn.graph l.fn.user l.fn.process to_prohibit_to l.places l.i

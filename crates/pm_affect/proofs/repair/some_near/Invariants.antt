@@ -1,0 +1,13 @@
+-- The answer is that of the users that are left.
+use Rattle.std.proofs.Common.{◌≡◌, drop}
+use Rattle.std.specs.List.{list_any}
+use Rattle.pm_affect.specs.Rows.{has_near}
+use Rattle.pm_affect.proofs.repair.some_near.Given as goal
+
+abbrev pub invariant-loop-i : goal.invariant-loop-i
+invariant-loop-i g l =
+    let test = has_near (g.R.Reach.relation l.fn.reach).below l.region in
+    record {
+      rest : list_any test l.users ≡ list_any test (drop l.i l.users);
+      same : g.R.Reach.relation l.reach ≡ g.R.Reach.relation l.fn.reach;
+    }

@@ -1,0 +1,51 @@
+-- The region of a change row by row: which elements lie in it with one user. The project's own.
+use Rattle.std.specs.Prelude.{ℕ, Bool, true, false, ◌==◌, if◌then◌else◌, List, map, filter, None}
+use Rattle.pm_model.specs.Decision.{range_by, applies_by}
+use Rattle.pm_model.specs.declared.prohibitions.Subject.{Subject}
+use Rattle.pm_model.specs.declared.prohibitions.Subject.TheVariants.{Process}
+use Rattle.pm_affect.specs.declared.region.Region.{Region}
+use Rattle.pm_affect.specs.declared.region.Region.TheVariants.{Nothing, One, Under, Between, Barred}
+use Rattle.pm_affect.specs.declared.region.Row.{Row}
+use Rattle.pm_affect.specs.declared.region.Row.TheVariants.{Empty, Near, Whole}
+
+-- which elements lie in it with the user: none, all, or those that are near
+abbrev pub row_by : (ℕ → ℕ → Bool) → Region → ℕ → Row
+row_by below Nothing u = Empty
+row_by below (One x) u = if u == x then Whole else Near
+row_by below (Under x) u = if below u x then Whole else Near
+row_by below (Between ua at) u = if below u ua then Near else Empty
+row_by below (Barred p) u = if applies_by below u None p.subject then Near else Empty
+
+-- the element lies in it with each user that has a row of those that are near
+abbrev pub is_near : (ℕ → ℕ → Bool) → Region → ℕ → Bool
+is_near below Nothing e = false
+is_near below (One x) e = e == x
+is_near below (Under x) e = below e x
+is_near below (Between ua at) e = below e at
+is_near below (Barred p) e = range_by below p.mode p.inc p.exc e
+
+abbrev pub is_near_row : Row → Bool
+is_near_row Near = true
+is_near_row _ = false
+
+-- the user has a row of those that are near
+abbrev pub has_near : (ℕ → ℕ → Bool) → Region → ℕ → Bool
+has_near below region u = is_near_row (row_by below region u)
+
+abbrev pub is_process : Subject ℕ ℕ → Bool
+is_process (Process p) = true
+is_process _ = false
+
+-- no pair lies in it, whatever is contained in what
+abbrev pub is_nothing : Region → Bool
+is_nothing Nothing = true
+is_nothing (Barred p) = is_process p.subject
+is_nothing _ = false
+
+-- the user with each of the elements
+abbrev pub with_each : ℕ → List ℕ → List (ℕ × ℕ)
+with_each u es = map (λ e. (u, e)) es
+
+-- with those of them that lie inside
+abbrev pub row : (ℕ → ℕ → Bool) → ℕ → List ℕ → List (ℕ × ℕ)
+row inside u es = with_each u (filter (inside u) es)

@@ -1,0 +1,20 @@
+//! Which pairs of a user and an element a change can give other rights, and the lists of kept reviews repaired there.
+#![tactic(auto)]
+
+mod items;
+mod laws;
+mod lists;
+mod pairs;
+mod region;
+mod repair;
+mod sides;
+#[cfg(test)]
+mod tests;
+
+pub use laws::{
+    agreed_right, anew_given, judged_counted, judged_once, list_in_order, lists_right, lists_stay,
+    made_right, numbers_asked, numbers_rise, region_kept, region_live, rights_outside,
+};
+pub use lists::KeptLists;
+pub use region::Region;
+pub use repair::update;

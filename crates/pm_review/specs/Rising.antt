@@ -1,0 +1,16 @@
+-- Lists by rising number.
+use Rattle.std.specs.Prelude.{ℕ, ◌+◌, ◌≤◌, Bool, List, [], ◌∷◌, map, IsTrue, All}
+use Rattle.pm_model.specs.declared.reviews.Pair.{Pair}
+
+-- the numbers rise, and the first is at least `low`
+abbrev pub RiseFrom : ℕ → List ℕ → Type 0
+RiseFrom low [] = Unit {0}
+RiseFrom low (n ∷ ns) = (low ≤ n) × RiseFrom (n + 1) ns
+
+-- the numbers of the elements rise, and the first is at least `low`
+abbrev pub PairsRiseFrom : ℕ → List Pair → Type 0
+PairsRiseFrom low list = RiseFrom low (map (λ (p : Pair). p.element) list)
+
+-- each number passes the test
+abbrev pub AllNamed : (ℕ → Bool) → List Pair → Type 0
+AllNamed named list = All (λ (p : Pair). IsTrue (named p.element)) list

@@ -1,0 +1,125 @@
+//! What differs between two lists, of elements that may have gone, come or changed their rights.
+
+ghost use Rattle.std.specs.Prelude.{◌≡◌, ◌++◌, ◌∷◌, [], filter, bytes_eq, unwrap_or, IfOk, OnOk, OnSome, IsTrue};
+ghost use Rattle.pm_model.specs.LastChanges.{changed, differs, changes_between};
+ghost use Rattle.pm_review.specs.Rising.{PairsRiseFrom, AllNamed};
+ghost use Rattle.pm_review.specs.Steps.{lowest, first_rights, after_first, changes_of};
+
+use pm_model::{ChangeList, Changed, ElementId, Memory, Name, NameOf, Pair, PairList, Rights};
+
+const NONE: Rights = Rights(0);
+
+/// The lowest number in two rising lists.
+fn lowest(old: &[Pair], new: &[Pair]) -> Option<ElementId>
+    ensures { result ≡ lowest old.now new.now }
+{
+    match (old.first(), new.first()) {
+        (Some(was), Some(is)) => {
+            let number = was.element.number().min(is.element.number());
+            Some(ElementId(number))
+        }
+        (Some(was), None) => Some(was.element),
+        (None, Some(is)) => Some(is.element),
+        (None, None) => None,
+    }
+}
+
+/// The rights of an element, if the list begins with it.
+fn first_rights(list: &[Pair], id: ElementId) -> Option<Rights>
+    ensures { result ≡ first_rights id list.now }
+{
+    let first = list.first()?;
+    if first.element == id {
+        return Some(first.rights);
+    }
+    None
+}
+
+/// What comes after an element, if the list begins with it, else all.
+fn after_first(list: &[Pair], id: ElementId) -> &[Pair]
+    ensures { result.now ≡ after_first id list.now }
+{
+    match list.split_first() {
+        Some((first, rest)) if first.element == id => rest,
+        _ => list,
+    }
+}
+
+/// Puts the change at the end of the list, if it is one.
+fn push_change(list: &mut ChangeList, name: Name, old: Rights, new: Rights) -> Result<(), Memory>
+    ensures { OnOk result (list.new ≡ list.old ++ filter differs (changed name old new ∷ [])) }
+{
+    if old == new {
+        return Ok(());
+    }
+    list.push(Changed { name, old, new })
+}
+
+/// Puts at the end of the list what becomes of the element of a number that has these names, or of the two that have had
+/// it.
+fn push_both(
+    list: &mut ChangeList,
+    was: Name,
+    is: Name,
+    old: Rights,
+    new: Rights,
+) -> Result<(), Memory>
+    ensures { OnOk result (list.new ≡ list.old ++ changes_of was is old new) }
+{
+    if was == is {
+        return push_change(list, is, old, new);
+    }
+    push_change(list, was, old, NONE)?;
+    push_change(list, is, NONE, new)
+}
+
+/// Puts at the end of the list what becomes of the element of a number, with the rights before and after where the lists
+/// have it.
+fn push_changes<B: NameOf, A: NameOf>(
+    list: &mut ChangeList,
+    before: &B,
+    after: &A,
+    id: ElementId,
+    old: Option<Rights>,
+    new: Option<Rights>,
+) -> Result<(), Memory>
+    requires old { OnSome old (IsTrue (B.named before.now id)) }
+    requires new { OnSome new (IsTrue (A.named after.now id)) }
+    ensures { OnOk result (list.new ≡ list.old ++ changes_of (B.name_at before.now id) (A.name_at after.now id) (unwrap_or old 0) (unwrap_or new 0)) }
+{
+    match (old, new) {
+        (Some(old), Some(new)) => push_both(list, before.name_of(id), after.name_of(id), old, new),
+        (Some(old), None) => push_change(list, before.name_of(id), old, NONE),
+        (None, Some(new)) => push_change(list, after.name_of(id), NONE, new),
+        (None, None) => Ok(()),
+    }
+}
+
+/// What differs between the list of a review before and after, where elements have the names of the one and of the other:
+/// by rising number of the elements; where a number has gone from one element to another, the old one first.
+///
+/// Its cost is the length of both lists. A name is asked for of an element alone that a list has.
+pub fn changes<B: NameOf, A: NameOf>(
+    before: &B,
+    after: &A,
+    old: &PairList,
+    new: &PairList,
+) -> Result<ChangeList, Memory>
+    requires old_rises { PairsRiseFrom 0 old.now }
+    requires new_rises { PairsRiseFrom 0 new.now }
+    requires old_named { AllNamed (B.named before.now) old.now }
+    requires new_named { AllNamed (A.named after.now) new.now }
+    ensures { IfOk result (λ list. list ≡ changes_between (B.name_at before.now) (A.name_at after.now) old.now new.now) }
+{
+    let mut list = ChangeList::new(old.allocator());
+    let mut old_rest = old.as_slice();
+    let mut new_rest = new.as_slice();
+    while let Some(id) = lowest(old_rest, new_rest) {
+        let was = first_rights(old_rest, id);
+        let is = first_rights(new_rest, id);
+        push_changes(&mut list, before, after, id, was, is)?;
+        old_rest = after_first(old_rest, id);
+        new_rest = after_first(new_rest, id);
+    }
+    Ok(list)
+}

@@ -1,0 +1,53 @@
+-- What lies outside the region is right already.
+use Rattle.std.proofs.Common.{arith}
+use Rattle.pm_state.specs.Containing.{relation_in}
+use Rattle.pm_state.proofs.Regions.{elements-asked, users-asked, few-pairs}
+use Rattle.pm_state.proofs.Repaired.{due-same, are-lists, are-live, anew-listed}
+use Rattle.pm_state.proofs.repairs.judge_again.Goals as goal
+
+pub update-requires-clause-region : goal.update-requires-clause-region
+update-requires-clause-region c =
+    let due = c.requires in
+    rw (c.reach-reach.ensures.elements, c.reach-reach.ensures.assigned, due.asked.0)
+    (c.region_live.ensures due.before c.args.graph.now due.change (relation_in c.args.graph.now) due.formed due.named due.led (λ n live. live))
+
+pub update-requires-clause-users : goal.update-requires-clause-users
+update-requires-clause-users c =
+    rw (c.reach-reach.ensures.elements, c.reach-reach.ensures.assigned, c.new-judge.ensures.graph, c.in_ok-users.ensures)
+    (users-asked c.args.graph.now c.formed.ensures)
+
+pub update-requires-clause-elements : goal.update-requires-clause-elements
+update-requires-clause-elements c =
+    rw (c.reach-reach.ensures.elements, c.reach-reach.ensures.assigned, c.new-judge.ensures.graph, c.in_ok-elements.ensures)
+    (elements-asked c.args.graph.now c.formed.ensures)
+
+pub update-requires-clause-users_rise : goal.update-requires-clause-users_rise
+update-requires-clause-users_rise c = rw (c.in_ok-users.ensures) (c.numbers_rise.ensures.users c.args.graph.now c.formed.ensures)
+
+pub update-requires-clause-elements_rise : goal.update-requires-clause-elements_rise
+update-requires-clause-elements_rise c = rw (c.in_ok-elements.ensures) (c.numbers_rise.ensures.elements c.args.graph.now c.formed.ensures)
+
+pub update-requires-clause-room : goal.update-requires-clause-room
+update-requires-clause-room c =
+    let few = few-pairs c.args.graph.now c.formed.ensures in
+    rw (c.new-judge.ensures.asked, c.in_ok-users.ensures, c.in_ok-elements.ensures) (omega (arith, few))
+
+pub update-requires-clause-lists : goal.update-requires-clause-lists
+update-requires-clause-lists c =
+    let L = c.args.lists.now in
+    let H = c.args.graph.now in
+    let due = c.requires in
+    let same = due-same L H c.args.region.now due in
+    rw (c.reach-reach.ensures.assigned, c.new-judge.ensures.graph, c.in_ok-elements.ensures, c.in_ok-users.ensures, due.asked.0)
+    (c.lists_right.ensures due.before H due.change due.formed due.named due.led L (are-lists L c.kept.ensures due.before due.listed)
+    (are-live L c.kept.ensures due.before H c.formed.ensures same due.listed))
+
+pub returns : goal.returns
+returns c =
+    let L = c.args.lists.now in
+    let H = c.args.graph.now in
+    let due = c.requires in
+    anew-listed L c.update.new.lists H
+    (rw (c.new-judge.ensures.graph, c.in_ok-elements.ensures) at c.in_ok-update.ensures.caps)
+    (rw (c.new-judge.ensures.graph, c.in_ok-users.ensures) at c.in_ok-update.ensures.entries)
+    due.before (due-same L H c.args.region.now due) due.listed

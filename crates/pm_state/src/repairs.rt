@@ -1,0 +1,135 @@
+//! The lists of kept reviews, made up for a change of the graph.
+ghost use Rattle.std.specs.Prelude.{◌≡◌, IfOk, IfSome, OnOk};
+ghost use Rattle.std.specs.Option.{option_copied};
+ghost use Rattle.pm_model.specs.Formed.{IsNamed};
+ghost use Rattle.pm_affect.specs.Affected.{lifted_by};
+ghost use Rattle.pm_affect.specs.Lists.{Lists};
+ghost use Rattle.pm_state.specs.Listing.{AreListed, keeps};
+ghost use Rattle.pm_state.specs.Repairs.{IsAsked, IsDue};
+
+use crate::asking::{list_of, live_elements, live_users};
+use crate::graph::Graph;
+use crate::judging::GraphJudge;
+use pm_affect::{
+    KeptLists, Region, list_in_order, lists_right, numbers_rise, region_live, rights_outside,
+    update,
+};
+use pm_model::{Bars, Change, ElementId, Memory, Prohibition, ReviewOf};
+
+/// What a change asks of the lists.
+#[derive(Drop)]
+pub(crate) enum Repair {
+    /// One more, of a review that is kept from now on.
+    More(ReviewOf<ElementId>),
+    /// One less, of a review that was kept.
+    Less(ReviewOf<ElementId>),
+    /// The pairs of a region in those that there are.
+    Within(Region),
+}
+
+/// Whether the change keeps one review more.
+pub fn keeps(change: &Change) -> bool
+    ensures { result ≡ keeps change.now }
+{
+    match change {
+        Change::Keep { .. } => true,
+        _ => false,
+    }
+}
+
+/// The prohibition that the change lifts, if any.
+fn lifted<'a>(graph: &'a Graph, change: &Change) -> Option<&'a Prohibition>
+    requires { IsNamed graph.now change.now }
+    ensures { option_copied result ≡ lifted_by graph.now change.now }
+{
+    match change {
+        Change::Lift { index } => Some(graph.deny().at(*index as usize)),
+        _ => None,
+    }
+}
+
+/// What a change of the graph will ask of its lists. Only a copy of a prohibition takes memory.
+pub(crate) fn repair_of(graph: &Graph, change: &Change) -> Result<Repair, Memory>
+    requires { IsNamed graph.now change.now }
+    ensures { IfOk result (IsAsked graph.now change.now) }
+{
+    match change {
+        Change::Keep { of } => Ok(Repair::More(*of)),
+        Change::DropReview { review } => match graph.kept().of(*review) {
+            Some(of) => Ok(Repair::Less(of)),
+            None => unreachable!(),
+        },
+        _ => Ok(Repair::Within(Region::of(change, lifted(graph, change))?)),
+    }
+}
+
+/// Asks again for the rights of the pairs that lie in the region and in the scope of a kept review, each once.
+fn judge_again(lists: &mut KeptLists, graph: &Graph, region: &Region) -> Result<(), Memory>
+    requires { IsDue lists.old graph.now (Repair.Within region.now) }
+    ensures { OnOk result (AreListed lists.new graph.now) }
+{
+    graph.formed();
+    lists.kept();
+    lists_right();
+    numbers_rise();
+    region_live();
+    let elements = live_elements(graph)?;
+    let users = live_users(graph)?;
+    let mut reach = graph.reach();
+    let mut judge = GraphJudge::new(graph);
+    update(lists, region, &elements, &users, &mut reach, &mut judge)?;
+    Ok(())
+}
+
+/// Does so, where a review is kept and the region isn't empty.
+fn repair_within(lists: &mut KeptLists, graph: &Graph, region: &Region) -> Result<(), Memory>
+    requires { IsDue lists.old graph.now (Repair.Within region.now) }
+    ensures { OnOk result (AreListed lists.new graph.now) }
+{
+    if graph.kept().is_empty() {
+        return Ok(());
+    }
+    rights_outside();
+    match region {
+        Region::Nothing => Ok(()),
+        _ => judge_again(lists, graph, region),
+    }
+}
+
+/// Puts the list of a review among the others.
+fn insert(lists: &mut KeptLists, graph: &Graph, of: ReviewOf<ElementId>) -> Result<(), Memory>
+    requires { IsDue lists.old graph.now (Repair.More of) }
+    ensures { OnOk result (AreListed lists.new graph.now) }
+{
+    graph.formed();
+    list_in_order();
+    let list = list_of(graph, &of)?;
+    lists.insert(of, list)
+}
+
+/// Makes the lists those of the graph to which a change has led that asked for this. On Memory some may be as they were.
+fn make_up(lists: &mut KeptLists, graph: &Graph, asked: Repair) -> Result<(), Memory>
+    requires { IsDue lists.old graph.now asked }
+    ensures { OnOk result (AreListed lists.new graph.now) }
+{
+    match asked {
+        Repair::More(of) => insert(lists, graph, of),
+        Repair::Less(of) => {
+            lists.remove(of);
+            Ok(())
+        }
+        Repair::Within(region) => repair_within(lists, graph, &region),
+    }
+}
+
+/// The lists once they are those of the graph; None where there were none, and where memory is wanting.
+pub(crate) fn repaired(lists: Option<KeptLists>, graph: &Graph, asked: Repair) -> Option<KeptLists>
+    requires { IfSome lists (λ (L : Lists). IsDue L graph.now asked) }
+    ensures { IfSome result (λ (L : Lists). AreListed L graph.now) }
+{
+    let mut lists = lists?;
+    match make_up(&mut lists, graph, asked) {
+        Ok(()) => Some(lists),
+        Err(Memory) => None,
+    }
+}

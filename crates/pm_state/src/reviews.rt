@@ -1,0 +1,51 @@
+//! Changes of kept reviews.
+
+ghost use Rattle.std.specs.Prelude.{◌≡◌};
+ghost use Rattle.pm_model.specs.Effect.{may_keep};
+ghost use Rattle.pm_state.specs.Changes.{Changes, Checks};
+
+use crate::tables::Tables;
+use pm_model::{Change, ChangeError, ElementId, Made, Refusal, ReviewOf};
+
+impl Tables {
+    fn may_keep(&self, of: &ReviewOf<ElementId>) -> bool
+        ensures { result ≡ may_keep self.now.diagram.elements of.now }
+    {
+        match of {
+            ReviewOf::Caps(user) => self.is_user(*user),
+            ReviewOf::Entries(_) => true,
+        }
+    }
+
+    pub(crate) fn keep(&mut self, of: ReviewOf<ElementId>) -> Result<Made, ChangeError>
+        ensures { Changes self.old self.new (Change.Keep of) result }
+    {
+        if !self.may_keep(&of) {
+            return Err(ChangeError::Refused(Refusal::BadKinds));
+        }
+        match self.kept.keep(of) {
+            Ok(number) => Ok(Made::Review(number)),
+            Err(error) => Err(pm_kept::change_error(error)),
+        }
+    }
+
+    pub(crate) fn check_keep(&self, of: &ReviewOf<ElementId>) -> Result<(), ChangeError>
+        ensures { Checks self.now (Change.Keep of.now) result }
+    {
+        if !self.may_keep(of) {
+            return Err(ChangeError::Refused(Refusal::BadKinds));
+        }
+        match self.kept.check(of) {
+            Ok(()) => Ok(()),
+            Err(error) => Err(pm_kept::change_error(error)),
+        }
+    }
+
+    /// It takes no memory, and is never refused.
+    pub(crate) fn drop_review(&mut self, number: u32) -> Result<Made, ChangeError>
+        ensures { Changes self.old self.new (Change.DropReview number) result }
+    {
+        self.kept.drop_review(number);
+        Ok(Made::Nothing)
+    }
+}

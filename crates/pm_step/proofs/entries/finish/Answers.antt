@@ -1,0 +1,21 @@
+use Rattle.std.proofs.Common.{refl, ◌∙◌}
+use Rattle.pm_step.proofs.Stepping.{settled-answered, settled-step, settled-full}
+use Rattle.pm_step.proofs.entries.finish.Goals as goal
+
+pub finish-requires : goal.finish-requires
+finish-requires c =
+    settled-answered c.args.state.now c.settle_reviews.new.draft c.args.draft.graph c.args.entry.request c.args.reply
+    (rw (c.version.ensures.version) at c.in_ok-settle_reviews.ensures.ok) c.requires.asked
+    (c.in_ok-settle_reviews.ensures.history ∙ c.requires.history) c.replayed.ensures
+
+pub returns-in-Ok : goal.returns-in-Ok
+returns-in-Ok c =
+    settled-step c.args.state.now c.settle_reviews.new.draft c.args.draft.graph c.args.entry.request c.args.reply
+    (rw (c.version.ensures.version) at c.in_ok-settle_reviews.ensures.ok) c.requires.asked
+    c.in-Ok.next c.args.entry refl (c.in_ok-settle_reviews.ensures.history ∙ c.requires.history) c.in-Ok.ensures.room c.in-Ok.ensures.ok
+
+pub returns-in-Err-Full : goal.returns-in-Err-Full
+returns-in-Err-Full c =
+    settled-full c.args.state.now c.settle_reviews.new.draft c.args.draft.graph c.args.entry.request c.args.reply
+    (rw (c.version.ensures.version) at c.in_ok-settle_reviews.ensures.ok) c.requires.asked
+    c.args.entry refl (c.in_ok-settle_reviews.ensures.history ∙ c.requires.history) (c.in-Err-Full.ensures.full c.in-Err-Full.field-0-is)

@@ -1,0 +1,20 @@
+-- Lists of well formed graphs are by rising number, and of live elements.
+use Rattle.pm_step.proofs.settling.changes_in.Goals as goal
+
+pub changes-requires-clause-old_rises : goal.changes-requires-clause-old_rises
+changes-requires-clause-old_rises c =
+    rw (c.list-2.ensures) (c.lists_rise.ensures.rising c.args.before.now.graph c.args.of.now (rw (c.graph.ensures) at c.formed.ensures))
+
+pub changes-requires-clause-new_rises : goal.changes-requires-clause-new_rises
+changes-requires-clause-new_rises c =
+    rw (c.in_ok-new.ensures) (c.lists_rise.ensures.rising c.args.draft.now.graph c.args.of.now (rw (c.graph-2.ensures) at c.formed-2.ensures))
+
+pub changes-requires-clause-old_named : goal.changes-requires-clause-old_named
+changes-requires-clause-old_named c =
+    rw (c.list-2.ensures, c.graph-3.ensures)
+    (c.lists_rise.ensures.live c.args.before.now.graph c.args.of.now (rw (c.graph.ensures) at c.formed.ensures))
+
+pub changes-requires-clause-new_named : goal.changes-requires-clause-new_named
+changes-requires-clause-new_named c =
+    rw (c.in_ok-new.ensures, c.graph-4.ensures)
+    (c.lists_rise.ensures.live c.args.draft.now.graph c.args.of.now (rw (c.graph-2.ensures) at c.formed-2.ensures))
