@@ -1,6 +1,6 @@
 -- Which numbers are user attributes with associations, before and after a change.
-use Rattle.std.proofs.Common.{◌≡◌, ◌≢◌, ℕ, zero, suc, ◌+◌, ◌*◌, ◌<◌, ◌≤◌, ◌==◌, ◌||◌, ◌&&◌, not, Bool, true, false, List, [], ◌∷◌, length, slice_get, Some, insert, filter, All, refl, sym, ap, ◌∙◌, arith, inl, inr, eqb}
-use Rattle.std.proofs.lemmas.Bool.{cases_eq, eq-eqb, ne_eqb, eqb-true, eqb-false, false≢true}
+use Rattle.std.proofs.Common.{◌≡◌, ◌≢◌, ℕ, zero, suc, ◌+◌, ◌*◌, ◌<◌, ◌==◌, ◌||◌, Bool, true, false, List, [], ◌∷◌, length, slice_get, Some, insert, filter, All, refl, sym, ap, ◌∙◌, arith, inl, inr}
+use Rattle.std.proofs.lemmas.Bool.{cases_eq, eq-eqb, ne_eqb}
 use Rattle.std.proofs.lemmas.List.Elements.{All-nil, All-cons}
 use Rattle.pm_model.specs.Decision.{is_grantee}
 use Rattle.pm_model.specs.declared.rights.Grant.{Grant}
@@ -19,7 +19,7 @@ module _ (ua : ℕ) where
   holds-at (g ∷ gs) zero there = rw (eq-eqb g.ua ua there) refl
   holds-at (g ∷ gs) (suc i) there = rw (holds-at gs i there.1) (either (g.ua == ua))
 
-  none-higher : (n : ℕ) (gs : List Grantee) → AreGrantees n gs → ua < n → holds gs ua ≡ false
+  pub none-higher : (n : ℕ) (gs : List Grantee) → AreGrantees n gs → ua < n → holds gs ua ≡ false
   none-higher n [] h below = refl
   none-higher n (g ∷ gs) h below =
       rw (ne_eqb g.ua ua (λ same. omega (arith, same, h.0, below)), none-higher (g.ua + 1) gs h.2 (omega (arith, h.0, below))) refl
@@ -61,7 +61,7 @@ module _ (ua : ℕ) where
       holds (edited (with_grant grant) i gs) n ≡ (n == ua || holds gs n)
   holds-added gs i grant there n = holds-edited (with_grant grant) (λ g. refl) gs i n ∙ already gs n (holds-at gs i there)
 
-  turned : (a b : ℕ) → (a == b) ≡ (b == a)
+  pub turned : (a b : ℕ) → (a == b) ≡ (b == a)
   turned a b = elim (cases_eq a b) [
     | inl e ↦ rw (eq-eqb a b e, eq-eqb b a (sym e)) refl
     | inr d ↦ rw (ne_eqb a b d, ne_eqb b a (λ e. d (sym e))) refl

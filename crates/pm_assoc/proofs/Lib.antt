@@ -1,5 +1,6 @@
 mod Added
 mod Asked
+mod Counts
 mod Edits
 mod Holding
 mod Places

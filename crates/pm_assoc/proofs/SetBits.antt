@@ -1,5 +1,5 @@
 -- Sets of numbers in words of 64.
-use Rattle.std.proofs.Common.{◌≡◌, ◌≢◌, ℕ, zero, suc, ◌+◌, ◌*◌, ◌/◌, ◌%◌, ◌^◌, ◌<◌, ◌≤◌, ◌==◌, ◌||◌, ◌&&◌, not, Bool, true, false, List, [], ◌∷◌, ◌++◌, length, get_or, set, bit_or, bit_and, w64, refl, sym, ap, ◌∙◌, arith, inl, inr}
+use Rattle.std.proofs.Common.{◌≡◌, ℕ, zero, suc, ◌+◌, ◌*◌, ◌/◌, ◌%◌, ◌^◌, ◌<◌, ◌≤◌, ◌==◌, ◌||◌, ◌&&◌, not, Bool, true, false, List, [], ◌∷◌, ◌++◌, length, get_or, set, bit_or, bit_and, w64, refl, sym, ap, ◌∙◌, arith, inl, inr}
 use Rattle.std.specs.Int.{bit_at, bit_not}
 use Rattle.std.proofs.lemmas.Bool.{cases_lt, cases_eq, eq-eqb, ne_eqb, true≢false}
 use Rattle.std.proofs.lemmas.List.{get_or_past, get_or-set_same, get_or-set_other}
@@ -48,13 +48,6 @@ bit_clear words n fits q = elim (cases_eq (q / 64) (n / 64)) [
     | inr m ↦ rw (ne_eqb q n (λ e. m (ap (λ x. x % 64) e)), d, get_or-set_same words (n / 64) (bit_and (get_or words (n / 64) 0) (bit_not w64 (1 * 2 ^ (n % 64) % 2 ^ 64))) 0 fits, bit_at_clear_other w64 (get_or words (n / 64) 0) (n % 64) (mod-lt n (omega arith)) (q % 64) (mod-lt q (omega arith)) m) (stays _)
   ]
   | inr d ↦ rw (ne_eqb q n (λ e. d (ap (λ x. x / 64) e)), get_or-set_other words (n / 64) (q / 64) (bit_and (get_or words (n / 64) 0) (bit_not w64 (1 * 2 ^ (n % 64) % 2 ^ 64))) 0 d) (stays _)
-]
-
--- what isn't there needs no clearing
-pub clear_past : (words : List ℕ) (n : ℕ) → length words ≤ n / 64 → (q : ℕ) → in_set words q ≡ (in_set words q && not (q == n))
-clear_past words n past q = elim (cases_eq q n) [
-  | inl e ↦ rw (e, past_set words n past) refl
-  | inr d ↦ rw (ne_eqb q n d) (stays _)
 ]
 
 -- words of zeros at the end add nothing

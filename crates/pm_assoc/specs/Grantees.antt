@@ -1,5 +1,5 @@
 -- The user attributes that have associations, each with these: by rising user attribute, and none without any.
-use Rattle.std.specs.Prelude.{◌≡◌, ℕ, zero, suc, Bool, true, false, not, ◌==◌, ◌||◌, ◌+◌, ◌<◌, ◌≤◌, nat_lt, List, [], ◌∷◌, ◌++◌, length, filter, if◌then◌else◌}
+use Rattle.std.specs.Prelude.{◌≡◌, ℕ, zero, suc, Bool, false, not, ◌==◌, ◌||◌, ◌+◌, ◌<◌, ◌≤◌, List, [], ◌∷◌, ◌++◌, length, filter, if◌then◌else◌}
 use Rattle.std.specs.List.{list_any}
 use Rattle.pm_model.specs.declared.rights.Association.{Association}
 use Rattle.pm_model.specs.declared.rights.Grant.{Grant}
@@ -36,9 +36,6 @@ IsGapFor ua [] i = i ≡ 0
 IsGapFor ua (g ∷ gs) zero = ua < g.ua
 IsGapFor ua (g ∷ gs) (suc i) = (g.ua < ua) × IsGapFor ua gs i
 
-abbrev pub is_lower : ℕ → Grantee → Bool
-is_lower ua g = nat_lt g.ua ua
-
 abbrev pub is_of : ℕ → Grantee → Bool
 is_of ua g = g.ua == ua
 
@@ -47,12 +44,6 @@ abbrev pub passes_at : (Grantee → Bool) → List Grantee → ℕ → Bool
 passes_at test [] i = false
 passes_at test (g ∷ gs) zero = test g
 passes_at test (g ∷ gs) (suc i) = passes_at test gs i
-
--- the one before place i is lower, and the one there isn't
-pub record IsCut (ua : ℕ) (gs : List Grantee) (i : ℕ) : Type 0 where
-  pub within : i ≤ length gs
-  pub behind : (k : ℕ) → i ≡ k + 1 → passes_at (is_lower ua) gs k ≡ true
-  pub before : passes_at (is_lower ua) gs i ≡ false
 
 -- the item at place i is changed
 abbrev pub edited : {X : Type 0} → (X → X) → ℕ → List X → List X

@@ -1,3 +1,4 @@
+pub mod Counted
 pub mod Grantees
 pub mod Holders
 pub mod Kept

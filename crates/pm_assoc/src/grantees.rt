@@ -6,9 +6,10 @@ ghost use Rattle.std.specs.List.{list_any};
 ghost use Rattle.pm_model.specs.Effect.{joins, joined};
 ghost use Rattle.pm_model.specs.Decision.{associations_of, is_grantee};
 ghost use Rattle.pm_pages.specs.Paged.{IsOwn};
-ghost use Rattle.pm_assoc.specs.Holders.{holds};
+ghost use Rattle.pm_assoc.specs.Holders.{holds, TellsBelow, TellsHolders};
 ghost use Rattle.pm_assoc.specs.Grantees.{AreGrantees, grantee, association, is_on, mentions, edited, with_grant, grants_off, without_grant, without_empty};
 
+use crate::holders::Holders;
 use crate::search::locate;
 use pm_model::{ElementId, Grant, Grantee, ItemList, Memory};
 use pm_pages::PageList;
@@ -22,37 +23,46 @@ fn is_given(grants: &ItemList<Grant>, at: ElementId) -> bool
 }
 
 /// Whether the user attribute has an association on the element.
-pub(crate) fn has(grantees: &PageList<Grantee>, ua: ElementId, at: ElementId) -> bool
-    requires { AreGrantees 0 grantees.now.items }
+pub(crate) fn has(
+    grantees: &PageList<Grantee>,
+    holders: &Holders,
+    ua: ElementId,
+    at: ElementId,
+) -> bool
+    requires ordered { AreGrantees 0 grantees.now.items }
+    requires lower { TellsBelow ua holders.now grantees.now.items }
     ensures { result ≡ list_any (joins ua at) (associations_of grantees.now.items) }
 {
-    match locate(grantees, ua) {
+    match locate(grantees, holders, ua) {
         Ok(i) => is_given(&grantees.at(i).grants, at),
         Err(_) => false,
     }
 }
 
 /// Whether the user attribute has associations.
-pub(crate) fn is_holder(grantees: &PageList<Grantee>, ua: ElementId) -> bool
-    requires { AreGrantees 0 grantees.now.items }
+pub(crate) fn is_holder(grantees: &PageList<Grantee>, holders: &Holders, ua: ElementId) -> bool
+    requires ordered { AreGrantees 0 grantees.now.items }
+    requires lower { TellsBelow ua holders.now grantees.now.items }
     ensures { result ≡ holds grantees.now.items ua }
 {
-    match locate(grantees, ua) {
+    match locate(grantees, holders, ua) {
         Ok(_) => true,
         Err(_) => false,
     }
 }
 
-/// A user attribute that has associations, with these.
-pub(crate) fn grantee_of(grantees: &PageList<Grantee>, ua: ElementId) -> &Grantee
+/// A user attribute that has associations, with these: no search, whatever their number.
+pub(crate) fn grantee_of<'a>(
+    grantees: &'a PageList<Grantee>,
+    holders: &Holders,
+    ua: ElementId,
+) -> &'a Grantee
     requires ordered { AreGrantees 0 grantees.now.items }
+    requires told { TellsHolders holders.now grantees.now.items }
     requires there { holds grantees.now.items ua ≡ true }
     ensures { filter (is_grantee ua) grantees.now.items ≡ result.now ∷ [] }
 {
-    match locate(grantees, ua) {
-        Ok(i) => grantees.at(i),
-        Err(_) => unreachable!(),
-    }
+    grantees.at(holders.place(ua.number()))
 }
 
 /// Whether the element is the user attribute, or one of its associations is on it.
@@ -131,17 +141,19 @@ fn add_grantee(
 /// Puts an association behind the others of its user attribute.
 pub(crate) fn add(
     grantees: &mut PageList<Grantee>,
+    holders: &Holders,
     ua: ElementId,
     grant: Grant,
 ) -> Result<(), Memory>
-    requires { AreGrantees 0 grantees.old.items }
+    requires ordered { AreGrantees 0 grantees.old.items }
+    requires lower { TellsBelow ua holders.now grantees.old.items }
     ensures ok { OnOk result (associations_of grantees.new.items ≡ joined (association ua grant) (associations_of grantees.old.items)) }
     ensures ordered { OnOk result (AreGrantees 0 grantees.new.items) }
     ensures holders { OnOk result ((n : ℕ) → holds grantees.new.items n ≡ (n == ua || holds grantees.old.items n)) }
     ensures alone { grantees.new.alone ≡ grantees.old.alone }
     ensures err { OnErr result (grantees.new.items ≡ grantees.old.items) }
 {
-    match locate(grantees, ua) {
+    match locate(grantees, holders, ua) {
         Ok(i) => add_grant(grantees, i, grant),
         Err(i) => add_grantee(grantees, i, ua, grant),
     }
@@ -204,10 +216,12 @@ fn remove_at(grantees: &mut PageList<Grantee>, i: usize, at: ElementId) -> Resul
 /// Takes the associations of the user attribute on the element away, and says how many there were.
 pub(crate) fn remove(
     grantees: &mut PageList<Grantee>,
+    holders: &Holders,
     ua: ElementId,
     at: ElementId,
 ) -> Result<usize, Memory>
-    requires { AreGrantees 0 grantees.old.items }
+    requires ordered { AreGrantees 0 grantees.old.items }
+    requires lower { TellsBelow ua holders.now grantees.old.items }
     ensures gone { OnOk result (associations_of grantees.new.items ≡ filter (λ a. not (joins ua at a)) (associations_of grantees.old.items)) }
     ensures ordered { OnOk result (AreGrantees 0 grantees.new.items) }
     ensures fewer { OnOk result (holds grantees.new.items ua ≡ true → holds grantees.old.items ua ≡ true) }
@@ -217,7 +231,7 @@ pub(crate) fn remove(
     ensures sure { grantees.old.alone ≡ true → IsOk result }
     ensures err { OnErr result (grantees.new.items ≡ grantees.old.items) }
 {
-    match locate(grantees, ua) {
+    match locate(grantees, holders, ua) {
         Ok(i) => remove_at(grantees, i, at),
         Err(_) => Ok(0),
     }

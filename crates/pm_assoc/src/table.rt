@@ -10,7 +10,7 @@ ghost use Rattle.pm_assoc.specs.Told.{told};
 
 use crate::errors::AssocError;
 use crate::grantees::{add, grantee_of, has, is_holder, is_named, remove};
-use crate::holders::{self, insert, make_room};
+use crate::holders::Holders;
 use pm_model::{ElementId, Grant, Grantee, Grants, Memory, Rights};
 use pm_pages::PageList;
 use std::alloc::Global;
@@ -26,7 +26,7 @@ const ROOM: usize = 64;
 #[derive(Drop)]
 pub struct Assoc {
     grantees: PageList<Grantee>,
-    holders: Vec<u64>,
+    holders: Holders,
     count: usize,
 }
 
@@ -50,7 +50,7 @@ impl Assoc {
     {
         Assoc {
             grantees: PageList::new(alloc, ROOM),
-            holders: Vec::new(alloc),
+            holders: Holders::new(alloc),
             count: 0,
         }
     }
@@ -78,9 +78,9 @@ impl Assoc {
         ensures err { OnErr result (self.new ≡ self.old) }
     {
         self.check_associate(ua, at)?;
-        make_room(&mut self.holders, ua.number())?;
-        add(&mut self.grantees, ua, Grant { rights, at })?;
-        insert(&mut self.holders, ua.number());
+        self.holders.make_room(ua.number())?;
+        add(&mut self.grantees, &self.holders, ua, Grant { rights, at })?;
+        self.holders.insert(ua.number());
         self.count += 1;
         Ok(())
     }
@@ -97,9 +97,9 @@ impl Assoc {
         ensures err { OnErr result (self.new ≡ self.old) }
     {
         self.check_dissociate(ua, at)?;
-        let gone = remove(&mut self.grantees, ua, at)?;
-        if !is_holder(&self.grantees, ua) {
-            holders::remove(&mut self.holders, ua.number());
+        let gone = remove(&mut self.grantees, &self.holders, ua, at)?;
+        if !is_holder(&self.grantees, &self.holders, ua) {
+            self.holders.remove(ua.number());
         }
         self.count -= gone;
         Ok(())
@@ -128,15 +128,15 @@ impl Assoc {
         self.grantees.share()
     }
 
-    /// The same table once more. It shares the pages that are shared.
+    /// The same table once more. It shares the pages that are shared, and copies which user attributes
+    /// have associations, 3 KB where elements are below 16,384.
     pub fn copy(&self) -> Result<Assoc, Memory>
         ensures grantees { IfOk result (λ same. same.grantees ≡ self.now.grantees) }
         ensures alone { IfOk result (λ same. same.alone ≡ false) }
     {
-        let alloc = self.grantees.allocator();
         Ok(Assoc {
             grantees: self.grantees.copy()?,
-            holders: holders::copy(alloc, self.holders.as_slice())?,
+            holders: self.holders.copy()?,
             count: self.count,
         })
     }
@@ -145,7 +145,7 @@ impl Assoc {
     pub(crate) fn has(&self, ua: ElementId, at: ElementId) -> bool
         ensures { result ≡ list_any (joins ua at) (associations_of self.now.grantees) }
     {
-        has(&self.grantees, ua, at)
+        has(&self.grantees, &self.holders, ua, at)
     }
 }
 
@@ -153,14 +153,14 @@ impl Grants for Assoc {
     ghost grantees = { λ t. t.grantees };
 
     fn holder_words(&self) -> u32 {
-        self.holders.len() as u32
+        self.holders.len()
     }
 
     fn holders(&self, k: u32) -> u64 {
-        holders::word(self.holders.as_slice(), k)
+        self.holders.word(k)
     }
 
     fn grantee(&self, ua: ElementId) -> &Grantee {
-        grantee_of(&self.grantees, ua)
+        grantee_of(&self.grantees, &self.holders, ua)
     }
 }

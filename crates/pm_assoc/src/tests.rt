@@ -101,6 +101,28 @@ fn words_tell_who_has_associations(rt: HostRuntime) -> Result<(), Fail> {
 }
 
 #[test]
+fn those_behind_a_change_are_found(rt: HostRuntime) -> Result<(), Fail> {
+    let mut table = table_of(rt.alloc(), &ENDS)?;
+    table.dissociate(ElementId(0), ElementId(1))?;
+    table.associate(ElementId(70), Rights(2), ElementId(1))?;
+    table.associate(ElementId(62), Rights(4), ElementId(1))?;
+    table.dissociate(ElementId(64), ElementId(1))?;
+    let rows = rows_of(rt.alloc(), &table)?;
+    assert_eq!(rt;
+        rows.as_slice(),
+        [
+            (62, 4, 1),
+            (63, 1, 1),
+            (63, 1, 2),
+            (70, 2, 1),
+            (16383, 1, 1)
+        ]
+        .as_slice()
+    );
+    Ok(())
+}
+
+#[test]
 fn copies_go_apart(rt: HostRuntime) -> Result<(), Fail> {
     let mut table = table_of(rt.alloc(), &[(2, 1, 9), (2, 6, 4)])?;
     table.share()?;

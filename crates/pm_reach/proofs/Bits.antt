@@ -49,6 +49,18 @@ joined_words into from new n b h r y =
         | inr l ↦ r k l ∙ rw (get_or_past from k 0 (omega arith)) (sym (or_zero_r (get_or into k 0)))
       ]
 
+-- where joining changes no word, the other row has nothing new
+pub all_there : (words other : List ℕ) → ((k : ℕ) → k < length other → bit_or (get_or words k 0) (get_or other k 0) ≡ get_or words k 0) →
+    (q : ℕ) → in_row other q ≡ true → in_row words q ≡ true
+all_there words other same q h =
+    let m = bit_at (get_or words (q / 64) 0) (q % 64) in
+    let n = bit_at (get_or other (q / 64) 0) (q % 64) in
+    sym (ap (λ w. bit_at w (q % 64) == 1) (same (q / 64) (omega (arith, within_row other q h))))
+    ∙ rw bit_at_or (max_or m n (bit_small (get_or words (q / 64) 0) (q % 64)) (bit_small (get_or other (q / 64) 0) (q % 64)) ∙ or_right (m == 1) (n == 1) h) where
+      or_right : (a b : Bool) → b ≡ true → (a || b) ≡ true
+      or_right true b h = refl
+      or_right false b h = h
+
 -- tests of two numbers
 pub ne-eqb : (a b : ℕ) → a ≢ b → eqb a b ≡ false
 ne-eqb a b h = false_from_ne_true (eqb a b) (λ t. h (eqb-true a b t))

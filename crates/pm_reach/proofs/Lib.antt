@@ -1,4 +1,5 @@
 pub mod Bits
+pub mod Covering
 pub mod Gathering
 pub mod Making
 pub mod Openings
@@ -6,6 +7,7 @@ pub mod Orders
 pub mod Pages
 pub mod Passing
 pub mod Preparing
+pub mod Readying
 pub mod Spanning
 pub mod Tables
 pub mod WholeWords

@@ -1,18 +1,23 @@
--- A new row, put in its place, is that of an element that was made.
-use Rattle.std.proofs.Common.{◌≡◌, ◌≢◌, ℕ, true, false, ◌||◌, ◌==◌, List, Option, Some, None, is_some, refl, sym, ap, ◌∙◌, inl, inr}
+-- What was made ready, followed, is the change that the step says.
+use Rattle.std.proofs.Common.{◌≡◌, ◌≢◌, ℕ, true, false, ◌||◌, ◌==◌, List, Vec, Option, Some, None, is_some, refl, sym, ap, ◌∙◌, inl, inr}
 use Rattle.std.proofs.lemmas.Bool.{cases_eq, eq-eqb}
+use Rattle.std.specs.declared.alloc.Global.{Global}
+use Rattle.pm_reach.specs.Words.{in_row}
 use Rattle.pm_reach.specs.Rows.{place_at, row_has, has, below}
-use Rattle.pm_reach.specs.Changes.{CanFollow, Makes}
+use Rattle.pm_reach.specs.Changes.{CanFollow, Makes, Assigns}
+use Rattle.pm_reach.specs.Passes.{Rewrites}
 use Rattle.pm_reach.specs.NewRows.{new_words, made_below}
 use Rattle.pm_reach.specs.Table.{Table}
-use Rattle.pm_reach.specs.Ready.{MakeReady, IsTaken, step_of}
+use Rattle.pm_reach.specs.Ready.{MakeReady, AssignReady, IsTaken, step_of}
 use Rattle.pm_reach.specs.declared.table.NewRow.{NewRow}
+use Rattle.pm_reach.specs.declared.containers.Span.{Span}
 use Rattle.pm_reach.specs.declared.step.Step.{Step}
 use Rattle.pm_reach.specs.declared.step.Step.TheVariants as step
 use Rattle.pm_reach.specs.declared.ready.Ready.{Ready}
 use Rattle.pm_reach.specs.declared.ready.Ready.TheVariants as ready
 use Rattle.pm_reach.proofs.Bits.{ne-eqb}
 use Rattle.pm_reach.proofs.Openings.{below-none, stays}
+use Rattle.pm_reach.proofs.Orders.{assigns}
 
 -- ---- the step of what is ready
 
@@ -79,3 +84,20 @@ pub made : (t : Table) (new : List (List (Option (List ℕ)))) {r : Ready} {row 
 made t new {r} {row} {x'} {x} {into'} {into} e s possible taken put others =
     let m = taken-row e s taken in
     put-makes t.rows new x (new_words x row) (has-none t.rows x into possible) m.there put others into m.words
+
+-- ---- an assignment
+
+abbrev assigned_to : Step → ℕ
+assigned_to (step.Make x into) = x
+assigned_to (step.Assign x y) = y
+assigned_to (step.Deassign x y) = y
+assigned_to (step.Remove x) = x
+
+pub assigned : (t : Table) (new : List (List (Option (List ℕ)))) {r : Ready} {span : Span} {other : Vec ℕ Global} {x' x y' y written : ℕ} →
+    r ≡ ready.Assign x' y' span other → step_of r ≡ step.Assign x y → IsTaken t r →
+    Rewrites x (λ p q. below t.rows p q || in_row other.items q) t.rows new written → Assigns x y t.rows new
+assigned t new {r} {span} {other} {x'} {x} {y'} {y} {written} e s taken rewrites =
+    let same : step.Assign x' y' ≡ step.Assign x y = sym (ap step_of e) ∙ s in
+    let same_y : y' ≡ y = ap assigned_to same in
+    let was : AssignReady t x' y' span other.items = rw e at taken in
+    assigns t.rows new x y written (λ q. in_row other.items q) (λ q. was.same q ∙ ap (λ n. below t.rows n q) same_y) rewrites

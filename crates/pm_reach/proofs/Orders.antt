@@ -284,3 +284,20 @@ deassigns assigned old new x y written was r = record {
   go p q h true e = r.within p e q
   go p q h false e =
       ap (λ o. row_has o q) (r.others p e) ∙ outside-told assigned old x y was p q h e
+
+-- ---- what a pass has written
+
+pub assigns : (old new : List (List (Option (List ℕ)))) (x y written : ℕ) (more : ℕ → Bool) → ((q : ℕ) → more q ≡ below old y q) →
+    Rewrites x (λ p q. below old p q || more q) old new written → Assigns x y old new
+assigns old new x y written more same r = record {
+  live = r.live;
+  related = λ p q. go p q (below old p x) refl;
+  outside = r.others;
+} where
+  none-more : (b : Bool) → b ≡ (b || false)
+  none-more true = refl
+  none-more false = refl
+
+  go : (p q : ℕ) (b : Bool) → below old p x ≡ b → below new p q ≡ (below old p q || (below old p x && below old y q))
+  go p q true e = r.within p e q ∙ rw (same q, e) refl
+  go p q false e = ap (λ o. row_has o q) (r.others p e) ∙ rw e (none-more (below old p q))

@@ -1,9 +1,10 @@
 -- One number more of a pass.
-use Rattle.std.proofs.Common.{◌≡◌, ◌≢◌, ℕ, zero, suc, ◌+◌, ◌-◌, add-one, ◌<◌, ◌≤◌, Bool, true, false, List, Option, Some, None, is_some, refl, sym, ap, ◌∙◌, arith, inl, inr}
-use Rattle.std.proofs.lemmas.Bool.{cases_eq, true≢false, false≢true}
+use Rattle.std.proofs.Common.{◌≡◌, ◌≢◌, ℕ, zero, suc, ◌+◌, ◌-◌, add-one, ◌<◌, ◌≤◌, ◌/◌, Bool, true, false, List, Option, Some, None, is_some, refl, sym, ap, ◌∙◌, arith, inl, inr}
+use Rattle.std.proofs.lemmas.Bool.{cases_eq, cases_lt, true≢false, false≢true}
 use Rattle.pm_reach.specs.Rows.{place_at, row_has, has, below, count_of, most}
 use Rattle.pm_reach.specs.Table.{Table, IsReady, Writes}
 use Rattle.pm_reach.specs.Passes.{Rewrites, Passed, Spans}
+use Rattle.pm_reach.specs.Unions.{AreUnions}
 
 below-has : (o : Option (List ℕ)) (q : ℕ) → row_has o q ≡ true → is_some o ≡ true
 below-has None q h = absurd (false≢true h)
@@ -29,16 +30,18 @@ unfolding count_of
 count-none test zero h = refl
 count-none test (suc n) h = rw (h n (omega arith)) (omega (arith, count-none test n (λ k l. h k (omega arith))))
 
--- where none from n on passes, a higher bound makes no difference
-count-past : (test : ℕ → Bool) (n m : ℕ) → ((k : ℕ) → n ≤ k → test k ≡ false) → count_of test (m + n) ≡ count_of test n
+-- where none of the numbers from n on passes, a higher bound makes no difference
+count-past : (test : ℕ → Bool) (n m : ℕ) → ((k : ℕ) → n ≤ k → k < m + n → test k ≡ false) → count_of test (m + n) ≡ count_of test n
 unfolding count_of
 count-past test n zero h = ap (count_of test) (omega arith)
 count-past test n (suc m) h =
     let next : suc m + n ≡ suc (m + n) = omega arith in
-    rw (next, h (m + n) (omega arith)) (omega (arith, count-past test n m h))
+    rw (next, h (m + n) (omega arith) (omega arith)) (omega (arith, count-past test n m (λ k l s. h k l (omega arith))))
 
-pub count-all : (test : ℕ → Bool) (n m : ℕ) → n ≤ m → ((k : ℕ) → n ≤ k → test k ≡ false) → count_of test m ≡ count_of test n
-count-all test n m l h = let e : m ≡ (m - n) + n = omega arith in rw e (count-past test n (m - n) h)
+pub count-all : (test : ℕ → Bool) (n m : ℕ) → n ≤ m → ((k : ℕ) → n ≤ k → k < m → test k ≡ false) → count_of test m ≡ count_of test n
+count-all test n m l h =
+    let e : m ≡ (m - n) + n = omega arith in
+    rw e (count-past test n (m - n) (λ k f s. h k f (omega arith)))
 
 -- ---- passes
 
@@ -80,21 +83,28 @@ Passed-yes {x} {n} {made} {old} {now} {new} {z} {written} a is w row =
       count = rw a.count (sym (count-yes (λ p. below old.rows p x) z was));
     }
 
-pub Passed-no : {x n : ℕ} {made : ℕ → ℕ → Bool} {old now : Table} {z written : ℕ} → Passed x n made old now z written →
-    below now.rows z x ≡ false → Passed x n made old now (z + 1) written
-Passed-no {x} {n} {made} {old} {now} {z} {written} a not =
-    let was : below old.rows z x ≡ false = sym (same_below (a.rest z (omega arith)) x) ∙ not in
-    record {
-      within = λ p l h q. elim (cases_eq p z) [
-        | inl e ↦ absurd (false≢true (sym was ∙ rw e at h))
-        | inr ne ↦ a.within p (omega arith) h q
-      ];
-      others = a.others;
-      rest = λ p l. a.rest p (omega arith);
-      live = a.live;
-      ready = λ p l h. a.ready p (omega arith) h;
-      count = a.count ∙ sym (count-no (λ p. below old.rows p x) z was);
-    }
+-- the numbers from z to `next` are passed by
+pub Passed-by : {x n : ℕ} {made : ℕ → ℕ → Bool} {old now : Table} {z written : ℕ} (next : ℕ) → Passed x n made old now z written → z ≤ next →
+    ((p : ℕ) → z ≤ p → p < next → below now.rows p x ≡ false) → Passed x n made old now next written
+Passed-by {x} {n} {made} {old} {now} {z} {written} next a more none = record {
+  within = λ p l h q. elim (cases_lt p z) [
+    | inl s ↦ a.within p s h q
+    | inr s ↦ absurd (false≢true (sym (was p s l) ∙ h))
+  ];
+  others = a.others;
+  rest = λ p l. a.rest p (omega arith);
+  live = a.live;
+  ready = λ p l h. a.ready p (omega arith) h;
+  count = a.count ∙ sym (count-all (λ p. below old.rows p x) z next more was);
+} where
+  was : (p : ℕ) → z ≤ p → p < next → below old.rows p x ≡ false
+  was p s l = sym (same_below (a.rest p s) x) ∙ none p s l
+
+-- the unions have what the rows have that are still to be passed
+pub Passed-unions : {x n : ℕ} {made : ℕ → ℕ → Bool} {old now : Table} {z written : ℕ} (unions : List (List (Option (List ℕ)))) → Passed x n made old now z written →
+    AreUnions unions old.rows → (p : ℕ) → z ≤ p → below now.rows p x ≡ true → below unions (p / 64) x ≡ true
+unfolding AreUnions
+Passed-unions {x} unions a are p l h = are p x (sym (same_below (a.rest p l) x) ∙ h)
 
 pub Passed-all : {x n : ℕ} {made : ℕ → ℕ → Bool} {old now : Table} {z written : ℕ} → Passed x n made old now z written →
     ((p : ℕ) → below old.rows p x ≡ true → p < z) → z ≤ most → Rewrites x made old.rows now.rows written
@@ -102,7 +112,7 @@ Passed-all {x} {n} {made} {old} {now} {z} {written} a short few = record {
   within = λ p h q. a.within p (short p h) h q;
   others = a.others;
   live = a.live;
-  count = a.count ∙ sym (count-all (λ p. below old.rows p x) z most few past);
+  count = a.count ∙ sym (count-all (λ p. below old.rows p x) z most few (λ p l s. past p l));
 } where
   past : (p : ℕ) → z ≤ p → below old.rows p x ≡ false
   past p l = go (below old.rows p x) refl where

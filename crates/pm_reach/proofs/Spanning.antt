@@ -1,11 +1,11 @@
 -- Among which numbers all is that is contained in an element, and what changes leave of the set of those that contain
 -- something else.
-use Rattle.std.proofs.Common.{◌≡◌, ◌≤◌, ◌<◌, ◌+◌, ℕ, true, false, List, ◌∷◌, Option, Some, None, IfSome, sym, ◌∙◌, ◌||◌, ◌&&◌, ◌==◌, inl, inr, arith}
+use Rattle.std.proofs.Common.{◌≡◌, ◌≤◌, ◌<◌, ◌+◌, ℕ, true, false, not, List, ◌∷◌, Option, Some, None, IfSome, sym, ◌∙◌, ◌||◌, ◌&&◌, ◌==◌, inl, inr, arith}
 use Rattle.std.proofs.lemmas.Bool.{true≢false, eqb-true, eq-eqb, or_parts}
 use Rattle.pm_reach.specs.Words.{in_row}
 use Rattle.pm_reach.specs.Rows.{has, below, most}
 use Rattle.pm_reach.specs.Passes.{AreContainers, Spans, is_given}
-use Rattle.pm_reach.specs.Changes.{TellContainment, CanFollow, Adds, Creates, Makes, Assigns, Deassigns}
+use Rattle.pm_reach.specs.Changes.{TellContainment, CanFollow, Adds, Creates, Makes, Assigns, Deassigns, Removes}
 use Rattle.pm_reach.specs.declared.step.Step.TheVariants as step
 use Rattle.pm_reach.proofs.Orders.{or-cases, and-both, less-contained}
 use Rattle.pm_reach.proofs.Passing.{has_below}
@@ -40,6 +40,11 @@ keep-deassigns assigned old new containers x y was d are =
     keep-less old new containers (λ p q h.
     let there = has_below new p q h in
     less-contained assigned old x y was p q (sym (d.live p) ∙ there) (sym (d.related p q there) ∙ h)) are
+
+pub keep-removes : (old new : List (List (Option (List ℕ)))) (containers : List ℕ) (x : ℕ) → Removes x old new → AreContainers old containers →
+    AreContainers new containers
+keep-removes old new containers x r are =
+    keep-less old new containers (λ p q h. (and-both (not (p == x)) (below old p q) (sym (r.related p q) ∙ h)).1) are
 
 pub keep-adds : (old new : List (List (Option (List ℕ)))) (containers : List ℕ) (x : ℕ) → Adds x old new → AreContainers old containers →
     AreContainers new containers

@@ -5,4 +5,5 @@ pub mod Passes
 pub mod Ready
 pub mod Rows
 pub mod Table
+pub mod Unions
 pub mod Words

@@ -5,6 +5,7 @@ use Rattle.pm_reach.specs.Words.{in_row}
 use Rattle.pm_reach.specs.Rows.{row_has, has, below}
 use Rattle.pm_reach.specs.Changes.{CanFollow}
 use Rattle.pm_reach.specs.Passes.{Spans}
+use Rattle.pm_reach.specs.Unions.{Cover}
 use Rattle.pm_reach.specs.declared.containers.Span.{Span}
 use Rattle.pm_reach.specs.Table.{Table, IsReady, IsOpen}
 use Rattle.pm_reach.specs.NewRows.{new_words, made_below, Fits}
@@ -45,7 +46,7 @@ IsTaken t (ready.Assign x y span other) = AssignReady t x y span other.items
 IsTaken t (ready.Deassign x y span marks queue row) = DeassignReady t x span marks.items queue.items row.items
 IsTaken t (ready.Remove x) = IsOpen t x
 
--- where a step is ready, rows can follow it, and the memory for it is there
-abbrev pub IsPrepared : Table → Option Ready → Type 0
-IsPrepared t None = ⊤
-IsPrepared t (Some r) = CanFollow t.rows (step_of r) × IsTaken t r
+-- where a step is ready, rows can follow it, the memory for it is there, and the unions have what it brings
+abbrev pub IsPrepared : Table → List (List (Option (List ℕ))) → Option Ready → Type 0
+IsPrepared t unions None = ⊤
+IsPrepared t unions (Some r) = CanFollow t.rows (step_of r) × IsTaken t r × Cover unions t.rows (step_of r)

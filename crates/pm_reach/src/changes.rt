@@ -12,6 +12,7 @@ ghost use Rattle.pm_reach.specs.Rows.{has, below, inside};
 ghost use Rattle.pm_reach.specs.Order.{IsOrder};
 ghost use Rattle.pm_reach.specs.Table.{IsReady, Writes};
 ghost use Rattle.pm_reach.specs.Passes.{Rewrites, Spans, TellSoFar, AreWithin};
+ghost use Rattle.pm_reach.specs.Unions.{AreUnions};
 ghost use Rattle.pm_reach.specs.Changes.{TellContainment, CanFollow, Makes, Assigns, Deassigns, Removes};
 ghost use Rattle.pm_reach.specs.Ready.{step_of, IsTaken};
 ghost use Rattle.pm_reach.specs.declared.step.Step.{Step};
@@ -19,23 +20,26 @@ ghost use Rattle.pm_reach.specs.declared.step.Step.{Step};
 use crate::containers::Span;
 use crate::ready::Ready;
 use crate::table::RowTable;
+use crate::unions::next_inside;
 use crate::words;
 use pm_model::{ElementId, Parents};
 use pm_search::{mark_all, unmark};
 
 /// Puts what the other row has into the row of each element that is contained in x. Answers how many
 /// they are.
-fn join_all(table: &mut RowTable, x: u32, span: Span, other: &[u64]) -> u64
+#[tactic(auto, unfolding(crate::specs::Unions::AreUnions))]
+fn join_all(table: &mut RowTable, unions: &RowTable, x: u32, span: Span, other: &[u64]) -> u64
     requires span { Spans table.old.rows x span.low span.high }
+    requires unions { AreUnions unions.now.rows table.old.rows }
     requires ready { (z : ℕ) → below table.old.rows z x ≡ true → IsReady table.old z (length other.now) }
     ensures { Rewrites x (λ p q. below table.old.rows p q || in_row other.now q) table.old.rows table.new.rows result }
 {
     let mut written = 0;
-    for z in span.low..span.high {
-        if table.has(z, x) {
-            table.join(z, other);
-            written += 1;
-        }
+    let mut z = next_inside(table, unions, x, span.low, span.high);
+    while z < span.high {
+        table.join(z, other);
+        written += 1;
+        z = next_inside(table, unions, x, z + 1, span.high);
     }
     written
 }
@@ -118,8 +122,10 @@ fn remake<P: Parents>(
 }
 
 /// Makes the row of each element that is contained in x anew. Answers how many they are.
+#[tactic(auto, unfolding(crate::specs::Unions::AreUnions))]
 fn remake_all<P: Parents>(
     table: &mut RowTable,
+    unions: &RowTable,
     x: u32,
     span: Span,
     parents: &P,
@@ -128,6 +134,7 @@ fn remake_all<P: Parents>(
     row: &mut [u64],
 ) -> u64
     requires span { Spans table.old.rows x span.low span.high }
+    requires unions { AreUnions unions.now.rows table.old.rows }
     requires ready { (z : ℕ) → below table.old.rows z x ≡ true → IsReady table.old z 0 }
     requires live { (z : ℕ) → has table.old.rows z ≡ true → IsTrue (P.live parents.now z) }
     requires rows { (z : ℕ) → IsTrue (P.live parents.now z) → has table.old.rows z ≡ true }
@@ -140,11 +147,11 @@ fn remake_all<P: Parents>(
     ensures { Rewrites x (contained (P.assigned parents.now)) table.old.rows table.new.rows result }
 {
     let mut written = 0;
-    for z in span.low..span.high {
-        if table.has(z, x) {
-            remake(table, x, z, parents, marks, queue, row);
-            written += 1;
-        }
+    let mut z = next_inside(table, unions, x, span.low, span.high);
+    while z < span.high {
+        remake(table, x, z, parents, marks, queue, row);
+        written += 1;
+        z = next_inside(table, unions, x, z + 1, span.high);
     }
     written
 }
@@ -163,14 +170,23 @@ pub(crate) fn make(table: &mut RowTable, ready: Ready, x: ElementId, into: Optio
 }
 
 /// Lets the rows follow an assignment of x to y. Answers how many were written.
-pub(crate) fn assign(table: &mut RowTable, ready: Ready, x: ElementId, y: ElementId) -> u64
+pub(crate) fn assign(
+    table: &mut RowTable,
+    unions: &RowTable,
+    ready: Ready,
+    x: ElementId,
+    y: ElementId,
+) -> u64
     requires step { step_of ready ≡ Step.Assign x y }
     requires taken { IsTaken table.old ready }
+    requires unions { AreUnions unions.now.rows table.old.rows }
     ensures rows { Assigns x y table.old.rows table.new.rows }
     ensures count { result ≡ inside table.old.rows x }
 {
     match ready {
-        Ready::Assign { span, other, .. } => { join_all(table, x.number(), span, other.as_slice()) }
+        Ready::Assign { span, other, .. } => {
+            join_all(table, unions, x.number(), span, other.as_slice())
+        }
         _ => unreachable!(),
     }
 }
@@ -179,6 +195,7 @@ pub(crate) fn assign(table: &mut RowTable, ready: Ready, x: ElementId, y: Elemen
 /// how many were written.
 pub(crate) fn deassign<P: Parents>(
     table: &mut RowTable,
+    unions: &RowTable,
     ready: Ready,
     x: ElementId,
     y: ElementId,
@@ -186,6 +203,7 @@ pub(crate) fn deassign<P: Parents>(
 ) -> u64
     requires step { step_of ready ≡ Step.Deassign x y }
     requires taken { IsTaken table.old ready }
+    requires unions { AreUnions unions.now.rows table.old.rows }
     requires order { IsOrder table.old.rows }
     requires live { (z : ℕ) → has table.old.rows z ≡ true → IsTrue (P.live parents.now z) }
     requires rows { (z : ℕ) → IsTrue (P.live parents.now z) → has table.old.rows z ≡ true }
@@ -202,6 +220,7 @@ pub(crate) fn deassign<P: Parents>(
             ..
         } => remake_all(
             table,
+            unions,
             x.number(),
             span,
             parents,

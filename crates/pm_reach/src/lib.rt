@@ -12,6 +12,7 @@ mod ready;
 mod rows;
 mod step;
 mod table;
+mod unions;
 mod view;
 mod words;
 

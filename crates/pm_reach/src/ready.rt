@@ -1,6 +1,6 @@
 //! Making ready: all memory that following a step needs is taken before anything is written.
 
-ghost use Rattle.std.specs.Prelude.{◌≡◌, ℕ, ◌<◌, ◌≤◌, ◌*◌, true, length, OnOk, IfOk};
+ghost use Rattle.std.specs.Prelude.{◌≡◌, ℕ, ◌<◌, ◌≤◌, ◌*◌, ◌/◌, true, length, OnOk, IfOk};
 ghost use Rattle.pm_search.specs.Marks.{NoneMarked};
 ghost use Rattle.pm_reach.specs.Words.{in_row};
 ghost use Rattle.pm_reach.specs.Rows.{has, below};
@@ -9,15 +9,16 @@ ghost use Rattle.pm_reach.specs.NewRows.{made_below};
 ghost use Rattle.pm_reach.specs.Changes.{CanFollow};
 ghost use Rattle.pm_reach.specs.Passes.{AreContainers, Spans};
 ghost use Rattle.pm_reach.specs.Ready.{step_of, IsTaken};
+ghost use Rattle.pm_reach.specs.Unions.{AreUnions, Cover};
 ghost use Rattle.pm_reach.specs.declared.step.Step.{Step};
 
 use crate::containers::{Containers, Span, span_of};
 use crate::step::Step;
 use crate::table::{NewRow, RowTable};
+use crate::unions::{cover, next_inside};
 use crate::words::row_with;
 use pm_model::{ElementId, Memory};
 use std::alloc::Global;
-use std::cmp::min;
 
 /// A step that is ready to be followed, with the memory that was taken for it.
 #[derive(Drop)]
@@ -50,22 +51,27 @@ pub(crate) enum Ready {
     },
 }
 
-/// Makes a step ready to be followed.
+/// Makes a step ready to be followed. What the step brings is put into the unions at once: they may
+/// have more than the rows.
 pub(crate) fn make_ready(
     table: &mut RowTable,
+    unions: &mut RowTable,
     containers: &Containers,
     step: Step,
 ) -> Result<Ready, Memory>
     requires possible { CanFollow table.old.rows step }
     requires containers { AreContainers table.old.rows containers.now }
+    requires unions { AreUnions unions.old.rows table.old.rows }
     ensures rows { table.new.rows ≡ table.old.rows }
+    ensures unions { AreUnions unions.new.rows table.old.rows }
     ensures step { IfOk result (λ ready. step_of ready ≡ step) }
     ensures taken { IfOk result (λ ready. IsTaken table.new ready) }
+    ensures covered { OnOk result (Cover unions.new.rows table.old.rows step) }
 {
     match step {
-        Step::Make { x, into } => ready_make(table, x, into),
-        Step::Assign { x, y } => ready_assign(table, containers, x, y),
-        Step::Deassign { x, y } => ready_deassign(table, containers, x, y),
+        Step::Make { x, into } => ready_make(table, unions, x, into),
+        Step::Assign { x, y } => ready_assign(table, unions, containers, x, y),
+        Step::Deassign { x, y } => ready_deassign(table, unions, containers, x, y),
         Step::Remove { x } => ready_remove(table, x),
     }
 }
@@ -80,42 +86,59 @@ fn row_of(table: &RowTable, x: u32, into: &Option<ElementId>) -> Result<Vec<u64>
     }
 }
 
-fn ready_make(table: &mut RowTable, x: ElementId, into: Option<ElementId>) -> Result<Ready, Memory>
-    requires { CanFollow table.old.rows (Step.Make x into) }
+#[tactic(auto, unfolding(crate::specs::Unions::AreUnions))]
+fn ready_make(
+    table: &mut RowTable,
+    unions: &mut RowTable,
+    x: ElementId,
+    into: Option<ElementId>,
+) -> Result<Ready, Memory>
+    requires possible { CanFollow table.old.rows (Step.Make x into) }
+    requires unions { AreUnions unions.old.rows table.old.rows }
     ensures rows { table.new.rows ≡ table.old.rows }
+    ensures unions { AreUnions unions.new.rows table.old.rows }
     ensures step { IfOk result (λ ready. step_of ready ≡ Step.Make x into) }
     ensures taken { IfOk result (λ ready. IsTaken table.new ready) }
+    ensures covered { OnOk result (Cover unions.new.rows table.old.rows (Step.Make x into)) }
 {
     let words = row_of(table, x.number(), &into)?;
+    cover(unions, x.number(), words.as_slice())?;
     let row = table.ready_new(x.number(), words)?;
     Ok(Ready::Make { x, into, row })
 }
 
 fn ready_assign(
     table: &mut RowTable,
+    unions: &mut RowTable,
     containers: &Containers,
     x: ElementId,
     y: ElementId,
 ) -> Result<Ready, Memory>
-    requires { AreContainers table.old.rows containers.now }
+    requires containers { AreContainers table.old.rows containers.now }
+    requires unions { AreUnions unions.old.rows table.old.rows }
     ensures rows { table.new.rows ≡ table.old.rows }
+    ensures unions { AreUnions unions.new.rows table.old.rows }
     ensures step { IfOk result (λ ready. step_of ready ≡ Step.Assign x y) }
     ensures taken { IfOk result (λ ready. IsTaken table.new ready) }
+    ensures covered { OnOk result (Cover unions.new.rows table.old.rows (Step.Assign x y)) }
 {
     let other = Vec::from_slice(table.alloc(), table.words(y.number()))?;
     let span = span_of(table, containers, x.number());
-    let span = ready_all(table, x.number(), span, other.len())?;
+    let span = ready_all(table, unions, x.number(), span, other.as_slice())?;
     Ok(Ready::Assign { x, y, span, other })
 }
 
 pub(crate) fn ready_deassign(
     table: &mut RowTable,
+    unions: &mut RowTable,
     containers: &Containers,
     x: ElementId,
     y: ElementId,
 ) -> Result<Ready, Memory>
-    requires { AreContainers table.old.rows containers.now }
+    requires containers { AreContainers table.old.rows containers.now }
+    requires unions { AreUnions unions.old.rows table.old.rows }
     ensures rows { table.new.rows ≡ table.old.rows }
+    ensures unions { AreUnions unions.new.rows table.old.rows }
     ensures step { IfOk result (λ ready. step_of ready ≡ Step.Deassign x y) }
     ensures taken { IfOk result (λ ready. IsTaken table.new ready) }
 {
@@ -124,7 +147,7 @@ pub(crate) fn ready_deassign(
     let queue = no_numbers(table.alloc(), size)?;
     let row = no_words(table.alloc(), size)?;
     let span = span_of(table, containers, x.number());
-    let span = ready_all(table, x.number(), span, 0)?;
+    let span = ready_all(table, unions, x.number(), span, &[])?;
     Ok(Ready::Deassign {
         x,
         y,
@@ -145,26 +168,32 @@ fn ready_remove(table: &mut RowTable, x: ElementId) -> Result<Ready, Memory>
     Ok(Ready::Remove { x })
 }
 
-/// Makes room for so many words in the row of each element that is contained in x. Answers a span of
-/// these that begins with the first of them and ends behind the last.
-fn ready_all(table: &mut RowTable, x: u32, span: Span, n: usize) -> Result<Span, Memory>
-    requires { Spans table.old.rows x span.low span.high }
+/// Makes room for the other row in the row of each element that is contained in x, and puts it into the
+/// unions of their pages. Answers a span of these elements that begins with the first of them and ends
+/// behind the last.
+#[tactic(auto, unfolding(crate::specs::Unions::AreUnions))]
+fn ready_all(
+    table: &mut RowTable,
+    unions: &mut RowTable,
+    x: u32,
+    span: Span,
+    other: &[u64],
+) -> Result<Span, Memory>
+    requires span { Spans table.old.rows x span.low span.high }
+    requires unions { AreUnions unions.old.rows table.old.rows }
     ensures rows { table.new.rows ≡ table.old.rows }
+    ensures unions { AreUnions unions.new.rows table.old.rows }
     ensures spans { IfOk result (λ found. Spans table.old.rows x found.low found.high) }
-    ensures ready { OnOk result ((z : ℕ) → below table.old.rows z x ≡ true → IsReady table.new z n) }
+    ensures ready { OnOk result ((z : ℕ) → below table.old.rows z x ≡ true → IsReady table.new z (length other.now)) }
+    ensures covered { OnOk result ((z q : ℕ) → below table.old.rows z x ≡ true → in_row other.now q ≡ true → below unions.new.rows (z / 64) q ≡ true) }
 {
-    let mut found = Span {
-        low: span.high,
-        high: span.high,
-    };
-    for z in span.low..span.high {
-        if table.has(z, x) {
-            table.ready(z, n)?;
-            found = Span {
-                low: min(found.low, z),
-                high: z + 1,
-            };
-        }
+    let mut z = next_inside(table, unions, x, span.low, span.high);
+    let mut found = Span { low: z, high: z };
+    while z < span.high {
+        table.ready(z, other.len())?;
+        cover(unions, z, other)?;
+        found.high = z + 1;
+        z = next_inside(table, unions, x, z + 1, span.high);
     }
     Ok(found)
 }

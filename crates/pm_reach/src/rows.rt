@@ -19,9 +19,16 @@ use std::marker::Model;
 
 /// Containment, kept as a row of bits for each live element. A change is made in two steps: `prepare`
 /// takes all memory that it needs and changes no row; the call that follows it can't fail.
+///
+/// Beside the rows stands the union of each page of 64 of them, by which all that is contained in an
+/// element is found: where something else ever was contained in it, a change costs a look at each page,
+/// and at each row of the pages whose union has the element. The unions are a filter, which may have
+/// more than the rows. They are at most 256 rows, which take 512 KiB.
 #[derive(Drop)]
 pub struct ReachRows {
     table: RowTable,
+    /// Row k has all that the rows of the numbers from 64 k on, 64 of them, have, and maybe more.
+    unions: RowTable,
     written: u64,
     ready: Option<Ready>,
     containers: Containers,
@@ -33,12 +40,13 @@ impl Model for ReachRows {
     ghost use Rattle.pm_reach.specs.Order.{IsOrder};
     ghost use Rattle.pm_reach.specs.Ready.{step_of, IsPrepared};
     ghost use Rattle.pm_reach.specs.Passes.{AreContainers};
+    ghost use Rattle.pm_reach.specs.Unions.{AreUnions};
 
     ghost Value = { Reached };
 
     ghost view = { λ a. record { rows = a.table.rows; written = a.written; ready = option_map step_of a.ready } };
 
-    ghost invariant = { λ a. IsOrder a.table.rows × IsPrepared a.table a.ready × AreContainers a.table.rows a.containers };
+    ghost invariant = { λ a. IsOrder a.table.rows × IsPrepared a.table a.unions.rows a.ready × AreContainers a.table.rows a.containers × AreUnions a.unions.rows a.table.rows };
 }
 
 /// Takes out what is ready.
@@ -77,12 +85,14 @@ impl ReachRows {
         Ok(rows)
     }
 
+    #[tactic(auto, unfolding(crate::specs::Unions::AreUnions))]
     fn empty(alloc: Global) -> Result<ReachRows, Memory>
         ensures { IfOk result (λ r. r.rows ≡ []) }
     {
         let containers = Containers::new(alloc)?;
         Ok(ReachRows {
             table: RowTable::new(alloc),
+            unions: RowTable::new(alloc),
             written: 0,
             ready: None,
             containers,
@@ -123,7 +133,7 @@ impl ReachRows {
         ensures err { OnErr result (self.new.ready ≡ None) }
     {
         self.ready = None;
-        let ready = make_ready(&mut self.table, &self.containers, step)?;
+        let ready = make_ready(&mut self.table, &mut self.unions, &self.containers, step)?;
         self.ready = Some(ready);
         Ok(())
     }
@@ -153,7 +163,7 @@ impl ReachRows {
     {
         self.table.bounded();
         let ready = take(&mut self.ready);
-        let more = assign(&mut self.table, ready, x, y);
+        let more = assign(&mut self.table, &self.unions, ready, x, y);
         self.containers.put(y.number());
         self.written = self.written.saturating_add(more);
     }
@@ -169,7 +179,7 @@ impl ReachRows {
         ensures ready { self.new.ready ≡ None }
     {
         let ready = take(&mut self.ready);
-        let more = deassign(&mut self.table, ready, x, y, parents);
+        let more = deassign(&mut self.table, &self.unions, ready, x, y, parents);
         self.written = self.written.saturating_add(more);
     }
 
@@ -226,8 +236,8 @@ impl ReachRows {
         ensures err { OnErr result ((self.new.rows ≡ self.old.rows) × (self.new.written ≡ self.old.written)) }
     {
         self.ready = None;
-        let ready = ready_deassign(&mut self.table, &self.containers, x, y)?;
-        let more = deassign(&mut self.table, ready, x, y, parents);
+        let ready = ready_deassign(&mut self.table, &mut self.unions, &self.containers, x, y)?;
+        let more = deassign(&mut self.table, &self.unions, ready, x, y, parents);
         self.written = self.written.saturating_add(more);
         Ok(())
     }
@@ -270,7 +280,8 @@ impl ReachRows {
         ensures ready { self.new.ready ≡ None }
     {
         self.ready = None;
-        self.table.share()
+        self.table.share()?;
+        self.unions.share()
     }
 
     /// The same rows once more, with the same number of those written, and nothing ready. Neither sees
@@ -281,9 +292,11 @@ impl ReachRows {
         ensures ready { IfOk result (λ same. same.ready ≡ None) }
     {
         let table = self.table.copy()?;
+        let unions = self.unions.copy()?;
         let containers = self.containers.copy()?;
         Ok(ReachRows {
             table,
+            unions,
             written: self.written,
             ready: None,
             containers,

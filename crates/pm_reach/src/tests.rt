@@ -198,6 +198,25 @@ fn rows_of_elements_below_their_containers(rt: HostRuntime) {
     }
 }
 
+// What is contained in 10 is in four pages; then 10 comes into 250, and out of it again.
+#[test]
+fn rows_of_elements_pages_apart(rt: HostRuntime) {
+    let alloc = rt.alloc();
+    let mut graph = unassigned(&rt, alloc);
+    for (x, y) in [(200, 10), (130, 200), (5, 130), (64, 5), (10, 250)] {
+        graph = assigned(&rt, graph, x, y);
+    }
+    for x in [5, 10, 64, 130, 200, 250] {
+        assert!(rt; is_in(&graph, x, 250), "{x} in 250");
+    }
+    assert!(rt; !is_in(&graph, 63, 250));
+    graph = deassigned(&rt, graph);
+    for x in [5, 10, 64, 130, 200] {
+        assert!(rt; !is_in(&graph, x, 250), "{x} in 250 no more");
+        assert!(rt; is_in(&graph, x, 10), "{x} in 10");
+    }
+}
+
 fn add(rt: &impl Abort, rows: &mut ReachRows, x: u8) {
     assert!(rt; !rows.live(id(x)));
     rows.on_add(id(x)).expect(rt, "memory");

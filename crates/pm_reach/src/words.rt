@@ -3,6 +3,7 @@
 
 ghost use Rattle.std.specs.Prelude.{◌≡◌, ℕ, ◌<◌, ◌≤◌, ◌+◌, ◌*◌, ◌==◌, ◌||◌, true, false, length, slice_index, vec_len, vec_capacity, IfOk};
 ghost use Rattle.std.specs.Int.{bit_at};
+ghost use Rattle.std.specs.Bool.{OnTrue};
 ghost use Rattle.std.specs.List.{list_any};
 ghost use Rattle.pm_reach.specs.Words.{in_row};
 
@@ -26,6 +27,21 @@ pub(crate) fn word(words: &[u64], k: u32) -> u64
 {
     let k = k as usize;
     if k < words.len() { words[k] } else { 0 }
+}
+
+/// Whether the row has all that the other row has. It may be no, too, where the row is the shorter one.
+pub(crate) fn has_all(words: &[u64], other: &[u64]) -> bool
+    ensures { OnTrue result ((q : ℕ) → in_row other.now q ≡ true → in_row words.now q ≡ true) }
+{
+    if words.len() < other.len() {
+        return false;
+    }
+    for i in 0..other.len() {
+        if words[i] | other[i] != words[i] {
+            return false;
+        }
+    }
+    true
 }
 
 /// Puts what the other row has into this one, which is at least as long.

@@ -1,12 +1,15 @@
-use Rattle.std.proofs.Common.{sym, ◌∙◌}
-use Rattle.std.proofs.lemmas.Bool.{true≢false}
-use Rattle.pm_assoc.proofs.Holding.{one-at, holds-gap}
+use Rattle.pm_assoc.proofs.Holding.{one-at}
+use Rattle.pm_assoc.proofs.Places.{located, told-place, at-within}
 use Rattle.pm_assoc.proofs.grantees.grantee_of.Goals as goal
+
+pub at-requires : goal.at-requires
+at-requires c =
+    let gs = c.args.grantees.now.items in
+    let place = told-place c.args.ua c.args.holders.now gs c.place.result (λ n l. c.requires.told n) (rw c.number.ensures at c.place.ensures) in
+    at-within c.args.ua gs c.place.result (rw place (located c.args.ua 0 gs c.requires.ordered c.requires.there))
 
 pub returns : goal.returns
 returns c =
-    one-at c.args.ua 0 c.args.grantees.now.items c.in-Ok.i c.at.result.now c.requires.ordered c.in-Ok.ensures.found c.at.ensures
-
-pub unreachable-requires : goal.unreachable-requires
-unreachable-requires c =
-    true≢false (sym c.requires.there ∙ holds-gap c.args.ua 0 c.args.grantees.now.items _ c.requires.ordered c.in-Err.ensures.absent)
+    let gs = c.args.grantees.now.items in
+    let place = told-place c.args.ua c.args.holders.now gs c.place.result (λ n l. c.requires.told n) (rw c.number.ensures at c.place.ensures) in
+    one-at c.args.ua 0 gs c.place.result c.at.result.now c.requires.ordered (rw place (located c.args.ua 0 gs c.requires.ordered c.requires.there)) c.at.ensures

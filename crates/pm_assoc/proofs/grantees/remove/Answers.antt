@@ -6,15 +6,15 @@ use Rattle.pm_assoc.proofs.grantees.remove.Goals as goal
 pub returns-in-Ok-clause-gone : goal.returns-in-Ok-clause-gone
 returns-in-Ok-clause-gone c =
     on_ok_weaker c.remove_at.result
-    (λ left. rw left (removed-at_once c.args.grantees.now.items c.args.ua c.args.at c.in-Ok.i c.requires c.in-Ok.ensures.found)) c.remove_at.ensures.items
+    (λ left. rw left (removed-at_once c.args.grantees.now.items c.args.ua c.args.at c.in-Ok.i c.requires.ordered c.in-Ok.ensures.found)) c.remove_at.ensures.items
 
 pub returns-in-Ok-clause-ordered : goal.returns-in-Ok-clause-ordered
 returns-in-Ok-clause-ordered c =
     on_ok_weaker c.remove_at.result
-    (λ left. rw left (ordered-removed 0 c.args.grantees.now.items c.in-Ok.i c.args.at c.requires)) c.remove_at.ensures.items
+    (λ left. rw left (ordered-removed 0 c.args.grantees.now.items c.in-Ok.i c.args.at c.requires.ordered)) c.remove_at.ensures.items
 
 pub returns-in-Err-clause-gone : goal.returns-in-Err-clause-gone
-returns-in-Err-clause-gone c = removed-gap c.args.ua c.args.at 0 c.args.grantees.now.items _ c.requires c.in-Err.ensures.absent
+returns-in-Err-clause-gone c = removed-gap c.args.ua c.args.at 0 c.args.grantees.now.items _ c.requires.ordered c.in-Err.ensures.absent
 
 pub returns-in-Ok-clause-fewer : goal.returns-in-Ok-clause-fewer
 returns-in-Ok-clause-fewer c =

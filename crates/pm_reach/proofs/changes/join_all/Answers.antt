@@ -1,26 +1,29 @@
--- One number more was passed.
-use Rattle.std.proofs.Common.{arith, sym, refl, ◌∙◌}
-use Rattle.pm_reach.proofs.Passing.{Passed-none, Passed-yes, Passed-no, Passed-all}
+-- z is passed, and so are those from there to the next one.
+use Rattle.std.proofs.Common.{arith, refl, ◌∙◌}
+use Rattle.pm_reach.proofs.Passing.{Passed-none, Passed-yes, Passed-by, Passed-all}
 use Rattle.pm_reach.proofs.changes.join_all.Goals as goal
-use Rattle.pm_reach.proofs.changes.join_all.Goals.{then-has, else-has}
 
 pub loop-z-init : goal.loop-z-init
-loop-z-init c = record { few = omega arith; passed = Passed-none c.requires.span c.requires.ready }
+loop-z-init c = record {
+  few = omega arith;
+  to = c.next_inside-z.ensures.to;
+  inside = c.next_inside-z.ensures.inside;
+  passed = Passed-by c.next_inside-z.result (Passed-none c.requires.span c.requires.ready) c.next_inside-z.ensures.from c.next_inside-z.ensures.none;
+}
 
 pub loop-z-preserved : goal.loop-z-preserved
-loop-z-preserved c = elim c.if-has.branch [
-  | then-has w ↦ record {
-    few = rw w.written-is (omega (arith, c.loop-z.invariant.few));
-    passed = rw (w.table-is, w.written-is) (Passed-yes c.loop-z.invariant.passed (sym w.if-has.ensures) w.join.ensures.writes
-        (λ q. w.join.ensures.row q ∙ rw (c.loop-z.invariant.passed.rest c.loop-z.z (omega arith)) refl));
-  }
-  | else-has w ↦ record {
-    few = rw w.written-is (omega (arith, c.loop-z.invariant.few));
-    passed = rw (w.table-is, w.written-is) (Passed-no c.loop-z.invariant.passed (sym w.if-has.ensures));
-  }
-]
+loop-z-preserved c =
+    let next = c.next_inside-z-in-loop-z in
+    record {
+      few = omega (arith, c.loop-z.invariant.few, next.ensures.from);
+      to = next.ensures.to;
+      inside = next.ensures.inside;
+      passed = Passed-by next.result
+          (Passed-yes c.loop-z.invariant.passed (c.loop-z.invariant.inside c.loop-z-test.true) c.join.ensures.writes
+          (λ q. c.join.ensures.row q ∙ rw (c.loop-z.invariant.passed.rest c.loop-z.z (omega arith)) refl)) next.ensures.from next.ensures.none;
+    }
 
 pub returns : goal.returns
 returns c =
-    let z = c.loop-z.auto.z-end in
-    Passed-all c.loop-z.invariant.passed (λ p h. let to = c.requires.span.to p h in omega arith) (let few = c.requires.span.few in omega arith)
+    Passed-all c.loop-z.invariant.passed (λ p h. omega (arith, c.loop-z-test.false, c.requires.span.to p h))
+    (omega (arith, c.loop-z.invariant.to, c.requires.span.few))

@@ -1,29 +1,47 @@
--- One number more was passed.
-use Rattle.std.proofs.Common.{arith, sym, refl, ◌∙◌}
-use Rattle.pm_reach.proofs.Passing.{Passed-none, Passed-yes, Passed-no, Passed-all}
+-- z is passed, and so are those from there to the next one.
+use Rattle.std.proofs.Common.{arith, sym, ◌∙◌, refl, length}
+use Rattle.pm_reach.proofs.Gathering.{passed-tell, passed-within}
+use Rattle.pm_reach.proofs.Passing.{Passed-none, Passed-yes, Passed-by, Passed-all, has_below, same_below}
 use Rattle.pm_reach.proofs.changes.remake_all.Goals as goal
-use Rattle.pm_reach.proofs.changes.remake_all.Goals.{then-has, else-has}
 
 pub loop-z-init : goal.loop-z-init
-loop-z-init g c = record { few = omega arith; none = c.requires.none; long = refl; passed = Passed-none c.requires.span c.requires.ready }
+loop-z-init g c = record {
+  few = omega arith;
+  to = c.next_inside-z.ensures.to;
+  inside = c.next_inside-z.ensures.inside;
+  none = c.requires.none;
+  long = refl;
+  passed = Passed-by c.next_inside-z.result (Passed-none c.requires.span c.requires.ready) c.next_inside-z.ensures.from c.next_inside-z.ensures.none;
+}
+
+pub remake-requires-clause-live : goal.remake-requires-clause-live
+remake-requires-clause-live g c =
+    let was = sym (same_below (c.loop-z.invariant.passed.rest c.loop-z.z (omega arith)) c.args.x) ∙ c.loop-z.invariant.inside c.loop-z-test.true in
+    c.requires.live c.loop-z.z (has_below c.args.table.now.rows c.loop-z.z c.args.x was)
+
+pub remake-requires-clause-told : goal.remake-requires-clause-told
+remake-requires-clause-told g c = passed-tell (g.P.Parents.assigned c.args.parents.now) c.loop-z.invariant.passed c.requires.outside
+
+pub remake-requires-clause-within : goal.remake-requires-clause-within
+remake-requires-clause-within g c =
+    rw c.loop-z.invariant.long
+    (passed-within (g.P.Parents.assigned c.args.parents.now) c.loop-z.invariant.passed (length c.args.row.now) c.requires.less c.requires.within)
 
 pub loop-z-preserved : goal.loop-z-preserved
-loop-z-preserved g c = elim c.if-has.branch [
-  | then-has w ↦ record {
-    few = rw w.written-is (omega (arith, c.loop-z.invariant.few));
-    none = rw w.marks-is w.remake.ensures.none;
-    long = rw w.row-is (w.remake.ensures.long ∙ c.loop-z.invariant.long);
-    passed = rw (w.table-is, w.written-is) (Passed-yes c.loop-z.invariant.passed (sym w.if-has.ensures) w.remake.ensures.writes w.remake.ensures.row);
-  }
-  | else-has w ↦ record {
-    few = rw w.written-is (omega (arith, c.loop-z.invariant.few));
-    none = rw w.marks-is c.loop-z.invariant.none;
-    long = rw w.row-is c.loop-z.invariant.long;
-    passed = rw (w.table-is, w.written-is) (Passed-no c.loop-z.invariant.passed (sym w.if-has.ensures));
-  }
-]
+loop-z-preserved g c =
+    let next = c.next_inside-z-in-loop-z in
+    record {
+      few = omega (arith, c.loop-z.invariant.few, next.ensures.from);
+      to = next.ensures.to;
+      inside = next.ensures.inside;
+      none = c.remake.ensures.none;
+      long = c.remake.ensures.long ∙ c.loop-z.invariant.long;
+      passed = Passed-by next.result
+          (Passed-yes c.loop-z.invariant.passed (c.loop-z.invariant.inside c.loop-z-test.true) c.remake.ensures.writes c.remake.ensures.row)
+          next.ensures.from next.ensures.none;
+    }
 
 pub returns : goal.returns
 returns g c =
-    let z = c.loop-z.auto.z-end in
-    Passed-all c.loop-z.invariant.passed (λ p h. let to = c.requires.span.to p h in omega arith) (let few = c.requires.span.few in omega arith)
+    Passed-all c.loop-z.invariant.passed (λ p h. omega (arith, c.loop-z-test.false, c.requires.span.to p h))
+    (omega (arith, c.loop-z.invariant.to, c.requires.span.few))

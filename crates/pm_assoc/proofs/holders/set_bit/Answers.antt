@@ -1,7 +1,7 @@
 use Rattle.std.proofs.Common.{◌≡◌, ◌/◌, ◌<◌, length, get_or, arith}
 use Rattle.std.proofs.lemmas.List.{get_or_read}
 use Rattle.pm_assoc.proofs.SetBits.{bit_set}
-use Rattle.pm_assoc.proofs.holders.insert.Goals as goal
+use Rattle.pm_assoc.proofs.holders.set_bit.Goals as goal
 
 pub returns-clause-set : goal.returns-clause-set
 returns-clause-set c =
