@@ -2,6 +2,7 @@ mod Agree
 pub mod Asked
 pub mod Before
 mod Counted
+pub mod Counting
 mod Edits
 pub mod Given
 pub mod Lemma
@@ -14,6 +15,7 @@ mod Order
 mod Passing
 mod Places
 mod Puts
-mod Repaired
+pub mod Repaired
 mod Rows
+pub mod Untouched
 mod Walk

@@ -61,3 +61,24 @@ region_live G H c relation f n k live =
       of (DefineRight name) n l = tt
       of (Keep review) n l = tt
       of (DropReview i) n l = tt
+
+-- and before it
+pub region_named : (G : Graph) (c : Change) (relation : Relation) → IsWellFormed G → IsNamed G c →
+    ((n : ℕ) → IsLive G.elements n → IsTrue (relation.live n)) → RegionLive relation (region_of G c)
+region_named G (Create id kind name into) relation f n l = tt
+region_named G (Delete id) relation f n l = tt
+region_named G (Assign x y) relation f n l = l x n.0
+region_named G (Deassign x y) relation f n l = l x n.0
+region_named G (Associate ua rights at) relation f n l = (l ua n.0, l at n.1)
+region_named G (Dissociate ua at) relation f n l = (l ua n.0, l at n.1)
+region_named G (OpenSession u) relation f n l = tt
+region_named G (CloseSession i) relation f n l = tt
+region_named G (StartProcess i) relation f n l = tt
+region_named G (EndProcess i) relation f n l = tt
+region_named G (Prohibit p) relation f n l = names-live G relation l p n.0 n.1 n.2
+region_named G (Lift i) relation f n l = lifted-live G relation l i (slice_get G.prohibitions i) refl f
+region_named G (Oblige o) relation f n l = tt
+region_named G (Withdraw i) relation f n l = tt
+region_named G (DefineRight name) relation f n l = tt
+region_named G (Keep review) relation f n l = tt
+region_named G (DropReview i) relation f n l = tt

@@ -21,7 +21,7 @@ use Rattle.pm_affect.proofs.Puts.{put-order, put-rights}
 -- ---- one list
 
 -- it is right everywhere where it has the right rights inside, nothing of what is gone, and else what it had
-list-done : (inside gone : ℕ → Bool) (rights : ℕ → ℕ) (ns : List ℕ) (ps final : List Pair) → IsRightOutside inside gone rights ns ps →
+pub list-done : (inside gone : ℕ → Bool) (rights : ℕ → ℕ) (ns : List ℕ) (ps final : List Pair) → IsRightOutside inside gone rights ns ps →
     ((n : ℕ) → gone n ≡ true → inside n ≡ true) → Rise 0 ns → IsInOrder 0 final →
     ((n : ℕ) → rights_at final n ≡ (if inside n && is_among ns n then rights n else (if gone n then 0 else rights_at ps n))) →
     final ≡ listed rights ns
@@ -188,7 +188,7 @@ cleared-asked (Barred p) L = refl
 
 -- ---- one side
 
-same-listed : (a b : Listed) → a.subject ≡ b.subject → a.pairs ≡ b.pairs → a ≡ b
+pub same-listed : (a b : Listed) → a.subject ≡ b.subject → a.pairs ≡ b.pairs → a ≡ b
 same-listed a b e f = rw (e, f) refl
 
 -- a list that is right outside, of a subject of which all pairs inside are put

@@ -75,7 +75,7 @@ module _ (below : ℕ → ℕ → Bool) where
   process-not (Ua x) u is = absurd (cc)
   process-not (Process p) u is = refl
 
-  in-nothing : (region : Region) (u e : ℕ) → is_nothing region ≡ true → is_in below region u e ≡ false
+  pub in-nothing : (region : Region) (u e : ℕ) → is_nothing region ≡ true → is_in below region u e ≡ false
   in-nothing Nothing u e is = refl
   in-nothing (One x) u e is = absurd (cc)
   in-nothing (Under x) u e is = absurd (cc)

@@ -42,6 +42,12 @@ is_nothing Nothing = true
 is_nothing (Barred p) = is_process p.subject
 is_nothing _ = false
 
+-- all pairs of some users lie in it, whatever is near
+abbrev pub is_wide : Region → Bool
+is_wide (One x) = true
+is_wide (Under x) = true
+is_wide _ = false
+
 -- the user with each of the elements
 abbrev pub with_each : ℕ → List ℕ → List (ℕ × ℕ)
 with_each u es = map (λ e. (u, e)) es

@@ -1,18 +1,23 @@
 //! What the region of a change leaves as it is, and what is judged again.
 
-ghost use Rattle.std.specs.Prelude.{◌≡◌, ℕ, List, Bool, true, false, Ok, Contains, IsTrue, length, map, ◌*◌, ◌^◌, ◌≤◌, ◌↔◌};
+ghost use Rattle.std.specs.Prelude.{◌≡◌, ℕ, List, [], ◌∷◌, ◌++◌, Bool, true, false, Ok, Contains, IsTrue, is_some, length, map, ◌+◌, ◌*◌, ◌^◌, ◌≤◌, ◌↔◌};
+ghost use Rattle.std.specs.List.{list_any};
 ghost use Rattle.pm_model.specs.Containment.{Relation, contained};
 ghost use Rattle.pm_model.specs.Decision.{Judgement};
 ghost use Rattle.pm_model.specs.Effect.{effect};
 ghost use Rattle.pm_model.specs.Formed.{StandOnce, IsLive, IsWellFormed, IsNamed};
+ghost use Rattle.pm_model.specs.History.{replay};
+ghost use Rattle.pm_model.specs.KeptReviews.{is_kept_of};
 ghost use Rattle.pm_model.specs.Reviews.{list_of, numbers_in, rights_in, users_in};
 ghost use Rattle.pm_model.specs.State.{Graph};
 ghost use Rattle.pm_model.specs.declared.requests.Change.{Change};
+ghost use Rattle.pm_model.specs.declared.requests.Entry.{Entry};
 ghost use Rattle.pm_model.specs.declared.reviews.ReviewOf.{ReviewOf};
 ghost use Rattle.pm_affect.specs.Affected.{is_in, region, region_after, region_of};
-ghost use Rattle.pm_affect.specs.Example.{count};
-ghost use Rattle.pm_affect.specs.Judged.{judged};
-ghost use Rattle.pm_affect.specs.Lists.{IsInOrder, Lists, Rise, inserted, is_among, removed};
+ghost use Rattle.pm_affect.specs.Counting.{judged_by, judged_for, judged_in};
+ghost use Rattle.pm_affect.specs.Example.{count, graph, hold};
+ghost use Rattle.pm_affect.specs.Judged.{in_scope, judged};
+ghost use Rattle.pm_affect.specs.Lists.{AreKept, IsInOrder, Lists, Rise, inserted, is_among, list_in, removed};
 ghost use Rattle.pm_affect.specs.Live.{AreAsked, RegionLive};
 ghost use Rattle.pm_affect.specs.Right.{AreAmong, AreGiven, AreLists, AreLive, AreRight, caps_anew, entries_anew};
 ghost use Rattle.pm_affect.specs.declared.region.Region.{Region};
@@ -70,6 +75,19 @@ pub fn region_live()
     ensures { (G H : Graph) (c : Change) (relation : Relation) → IsWellFormed G → IsNamed G c → effect G c ≡ Ok H → ((n : ℕ) → IsLive H.elements n → IsTrue (relation.live n)) → RegionLive relation (region_of G c) }
 {}
 
+/// It is so before it where the change makes no element, so that `touches` may ask about it.
+#[tactic(auto, using(crate::proofs::Named::region_named))]
+pub fn region_named()
+    ensures { (G : Graph) (c : Change) (relation : Relation) → IsWellFormed G → IsNamed G c → ((n : ℕ) → IsLive G.elements n → IsTrue (relation.live n)) → RegionLive relation (region_of G c) }
+{}
+
+/// Lists that are right outside a region, and have no pair of it in their scope, are what the rights give.
+#[tactic(auto, using(crate::proofs::Untouched::caps_untouched, crate::proofs::Untouched::entries_untouched))]
+pub fn untouched_right()
+    ensures caps { (below : ℕ → ℕ → Bool) (region : Region) (rights : ℕ → ℕ → ℕ) (elements users : List ℕ) (L : Lists) → Rise 0 elements → AreKept L → AreRight below region rights elements users L → ((u e : ℕ) → in_scope L u e ≡ true → is_in below region u e ≡ false) → L.caps ≡ map (caps_anew rights elements) L.caps }
+    ensures entries { (below : ℕ → ℕ → Bool) (region : Region) (rights : ℕ → ℕ → ℕ) (elements users : List ℕ) (L : Lists) → Rise 0 users → AreKept L → AreRight below region rights elements users L → ((u e : ℕ) → in_scope L u e ≡ true → is_in below region u e ≡ false) → L.entries ≡ map (entries_anew rights users) L.entries }
+{}
+
 /// The numbers of all live elements rise, and those of all users.
 #[tactic(auto, using(crate::proofs::Before::all_rise, crate::proofs::Before::users_rise))]
 pub fn numbers_rise()
@@ -104,4 +122,23 @@ pub fn judged_once()
 #[tactic(auto, using(crate::proofs::Counted::counted))]
 pub fn judged_counted()
     ensures { (count Nothing ≡ 0) × (count (Between 4 5) ≡ 3) × (count (One 6) ≡ 3) × (count (Under 5) ≡ 4) }
+{}
+
+/// The same policy with its one association, told by the rules alone: how many rights are judged for a few changes. What is
+/// refused has none judged, nor has a review that is made or dropped, nor a prohibition on a process.
+#[tactic(auto, using(crate::proofs::Counting::counted))]
+pub fn judged_worked()
+    ensures { (judged_for graph (Change.Dissociate 4 5) ≡ 3) × (judged_for graph (Change.Dissociate 4 6) ≡ 0) × (judged_for graph (Change.Assign 6 3) ≡ 3) × (judged_for graph (Change.Keep (ReviewOf.Caps 8)) ≡ 0) × (judged_for graph (Change.DropReview 1) ≡ 0) × (judged_for graph (Change.Prohibit hold) ≡ 0) }
+{}
+
+/// An entry adds what is judged by its request in the state that the entries before it lead to.
+#[tactic(auto, using(crate::proofs::Counting::judged_grown))]
+pub fn judged_grown()
+    ensures { (entries : List Entry) (entry : Entry) → judged_in (entries ++ entry ∷ []) ≡ judged_in entries + judged_by (replay entries) entry.request }
+{}
+
+/// How many rights are judged for a change is how many pairs `update` judges by lists of the reviews that are kept after it.
+#[tactic(auto, using(crate::proofs::Counting::judged_listed))]
+pub fn judged_listed()
+    ensures { (G H : Graph) (c : Change) (L : Lists) → effect G c ≡ Ok H → ((of : ReviewOf ℕ) → is_some (list_in L of) ≡ list_any (is_kept_of of) H.kept) → judged_for G c ≡ length (judged (is_in (contained H.assigned) (region_of G c)) (in_scope L) (users_in H.elements) (numbers_in H.elements)) }
 {}

@@ -10,11 +10,14 @@ mod repair;
 mod sides;
 #[cfg(test)]
 mod tests;
+mod touching;
 
 pub use laws::{
-    agreed_right, anew_given, judged_counted, judged_once, list_in_order, lists_right, lists_stay,
-    made_right, numbers_asked, numbers_rise, region_kept, region_live, rights_outside,
+    agreed_right, anew_given, judged_counted, judged_grown, judged_listed, judged_once,
+    judged_worked, list_in_order, lists_right, lists_stay, made_right, numbers_asked, numbers_rise,
+    region_kept, region_live, region_named, rights_outside, untouched_right,
 };
 pub use lists::KeptLists;
 pub use region::Region;
 pub use repair::update;
+pub use touching::touches;

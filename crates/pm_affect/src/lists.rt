@@ -123,6 +123,20 @@ impl KeptLists {
         self.caps.is_empty() && self.entries.is_empty()
     }
 
+    /// The lists of capabilities, by rising user.
+    pub(crate) fn caps(&self) -> &[Item]
+        ensures { result.now ≡ self.now.caps }
+    {
+        self.caps.as_slice()
+    }
+
+    /// Those of entries, by rising element.
+    pub(crate) fn entries(&self) -> &[Item]
+        ensures { result.now ≡ self.now.entries }
+    {
+        self.entries.as_slice()
+    }
+
     /// How many capabilities of lower users are kept, from a place on that isn't behind it.
     pub(crate) fn next_caps(&self, from: usize, user: ElementId) -> usize
         requires { from ≤ place user (subjects self.now.caps) }

@@ -6,7 +6,7 @@ ghost use Rattle.pm_decide.specs.Live.{IsLive};
 ghost use Rattle.pm_affect.specs.Affected.{is_in, region_by};
 ghost use Rattle.pm_affect.specs.Live.{RegionLive};
 ghost use Rattle.pm_affect.specs.declared.region.Row.{Row};
-ghost use Rattle.pm_affect.specs.Rows.{is_near, is_near_row, is_nothing, is_process, row_by};
+ghost use Rattle.pm_affect.specs.Rows.{is_near, is_near_row, is_nothing, is_process, is_wide, row_by};
 
 use pm_decide::{applies, in_range};
 use pm_model::{Change, ElementId, Memory, Prohibition, Reach, Subject};
@@ -132,6 +132,17 @@ impl Region {
         match self {
             Region::Nothing => true,
             Region::Barred(bar) => is_process(bar.subject),
+            _ => false,
+        }
+    }
+
+    /// Whether all pairs of some users lie in it, whatever is near: those of one element, or of what is contained in it.
+    pub(crate) fn is_wide(&self) -> bool
+        ensures { result ≡ is_wide self.now }
+    {
+        match self {
+            Region::One(_) => true,
+            Region::Under(_) => true,
             _ => false,
         }
     }

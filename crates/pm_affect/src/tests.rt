@@ -169,6 +169,9 @@ fn lists_are(rt: &impl Abort, lists: &KeptLists, caps: &[Pair], entries: &[Pair]
 fn an_association_comes_and_goes(rt: HostRuntime) -> Result<(), Fail> {
     let mut lists = kept(rt.alloc())?;
     let region = Region::Between(STAFF, DOCS);
+    let mut reach = Words { words: &WORDS };
+    assert!(rt; touches(&lists, &region, &mut reach));
+    assert!(rt; !touches(&lists, &Region::Between(ElementId(2), STAFF), &mut reach));
     let asked = repair(
         &mut lists,
         &region,

@@ -1,12 +1,12 @@
 -- Two lists walked through together: the changes so far are those of all numbers below the ones that are left.
-use Rattle.std.proofs.Common.{◌≡◌, ◌≢◌, ℕ, zero, suc, ◌+◌, ◌<◌, ◌≤◌, ◌==◌, max, min, Bool, true, false, not, List, [], ◌∷◌, ◌++◌, length, map, filter, find, bytes_eq, if◌then◌else◌, Option, None, Some, OnSome, unwrap_or, IsTrue, refl, sym, ◌∙◌, ap, inl, inr, arith, ne_eqb, eq-eqb}
+use Rattle.std.proofs.Common.{◌≡◌, ◌≢◌, ℕ, zero, suc, ◌+◌, ◌<◌, ◌≤◌, ◌==◌, max, min, Bool, true, false, not, List, [], ◌∷◌, ◌++◌, length, map, filter, find, bytes_eq, if◌then◌else◌, Option, None, Some, OnSome, unwrap_or, IsTrue, All, refl, sym, ◌∙◌, ap, inl, inr, arith, ne_eqb, eq-eqb}
 use Rattle.std.proofs.lemmas.List.{append-nil}
 use Rattle.std.proofs.lemmas.Bool.{eqb-true, eqb-false, cases_lt}
 use Rattle.std.proofs.lemmas.List.Elements.{All-head, All-tail}
 use Rattle.pm_model.specs.LastChanges.{changed, differs, is_of, rights_listed, above, changes_at, changes_below, changes_between}
 use Rattle.pm_model.specs.declared.reviews.Changed.{Changed}
 use Rattle.pm_model.specs.declared.reviews.Pair.{Pair}
-use Rattle.pm_review.specs.Rising.{RiseFrom, PairsRiseFrom, AllNamed}
+use Rattle.pm_review.specs.Rising.{RiseFrom, PairsRiseFrom, AllAlike, AllNamed}
 use Rattle.pm_review.specs.Steps.{lowest, first_rights, after_first, changes_of}
 
 -- ---- one list
@@ -64,19 +64,33 @@ after-shorter n (p ∷ ps) = by (p.element == n) refl where
 after-first : (n : ℕ) (p : Pair) (ps : List Pair) → (p.element == n) ≡ true → length (after_first n (p ∷ ps)) < length (p ∷ ps)
 after-first n p ps is = rw is (omega arith)
 
+-- what holds of each number holds of the first, and of those after it
+module _ (P : ℕ → Type 0) where
+  first-all : (n : ℕ) (ps : List Pair) → All (λ (p : Pair). P p.element) ps → OnSome (first_rights n ps) (P n)
+  first-all n [] h = tt
+  first-all n (p ∷ ps) h = by (p.element == n) refl where
+    by : (b : Bool) → (p.element == n) ≡ b → OnSome (first_rights n (p ∷ ps)) (P n)
+    by true is = rw is (rw (eqb-true p.element n is) at (All-head (λ (p : Pair). P p.element) p ps h))
+    by false is = rw is tt
+
+  after-all : (n : ℕ) (ps : List Pair) → All (λ (p : Pair). P p.element) ps → All (λ (p : Pair). P p.element) (after_first n ps)
+  after-all n [] h = h
+  after-all n (p ∷ ps) h = by (p.element == n) refl where
+    by : (b : Bool) → (p.element == n) ≡ b → All (λ (p : Pair). P p.element) (after_first n (p ∷ ps))
+    by true is = rw is (All-tail (λ (p : Pair). P p.element) p ps h)
+    by false is = rw is h
+
 pub first-named : (named : ℕ → Bool) (n : ℕ) (ps : List Pair) → AllNamed named ps → OnSome (first_rights n ps) (IsTrue (named n))
-first-named named n [] h = tt
-first-named named n (p ∷ ps) h = by (p.element == n) refl where
-  by : (b : Bool) → (p.element == n) ≡ b → OnSome (first_rights n (p ∷ ps)) (IsTrue (named n))
-  by true is = rw is (rw (eqb-true p.element n is) at (All-head (λ (p : Pair). IsTrue (named p.element)) p ps h))
-  by false is = rw is tt
+first-named named n ps h = first-all (λ n. IsTrue (named n)) n ps h
 
 pub after-named : (named : ℕ → Bool) (n : ℕ) (ps : List Pair) → AllNamed named ps → AllNamed named (after_first n ps)
-after-named named n [] h = h
-after-named named n (p ∷ ps) h = by (p.element == n) refl where
-  by : (b : Bool) → (p.element == n) ≡ b → AllNamed named (after_first n (p ∷ ps))
-  by true is = rw is (All-tail (λ (p : Pair). IsTrue (named p.element)) p ps h)
-  by false is = rw is h
+after-named named n ps h = after-all (λ n. IsTrue (named n)) n ps h
+
+pub first-alike : (was is : ℕ → List ℕ) (n : ℕ) (ps : List Pair) → AllAlike was is ps → OnSome (first_rights n ps) (was n ≡ is n)
+first-alike was is n ps h = first-all (λ n. was n ≡ is n) n ps h
+
+pub after-alike : (was is : ℕ → List ℕ) (n : ℕ) (ps : List Pair) → AllAlike was is ps → AllAlike was is (after_first n ps)
+after-alike was is n ps h = after-all (λ n. was n ≡ is n) n ps h
 
 -- ---- the lowest number of two lists
 

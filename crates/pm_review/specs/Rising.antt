@@ -1,5 +1,5 @@
 -- Lists by rising number.
-use Rattle.std.specs.Prelude.{ℕ, ◌+◌, ◌≤◌, Bool, List, [], ◌∷◌, map, IsTrue, All}
+use Rattle.std.specs.Prelude.{◌≡◌, ℕ, ◌+◌, ◌≤◌, Bool, List, [], ◌∷◌, map, IsTrue, All}
 use Rattle.pm_model.specs.declared.reviews.Pair.{Pair}
 
 -- the numbers rise, and the first is at least `low`
@@ -14,3 +14,7 @@ PairsRiseFrom low list = RiseFrom low (map (λ (p : Pair). p.element) list)
 -- each number passes the test
 abbrev pub AllNamed : (ℕ → Bool) → List Pair → Type 0
 AllNamed named list = All (λ (p : Pair). IsTrue (named p.element)) list
+
+-- each number has one name, by the one and by the other
+abbrev pub AllAlike : (ℕ → List ℕ) → (ℕ → List ℕ) → List Pair → Type 0
+AllAlike was is list = All (λ (p : Pair). was p.element ≡ is p.element) list

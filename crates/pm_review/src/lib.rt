@@ -12,7 +12,7 @@ mod surveys;
 #[cfg(test)]
 mod tests;
 
-pub use differences::changes;
+pub use differences::{changes, changes_of_rights};
 pub use laws::lists_rise;
 use pm_model::{ElementId, Judge, Memory, Pair, PairList, PlaceList, Rights, UserList};
 pub use surveys::bulk;

@@ -2,7 +2,7 @@
 
 ghost use Rattle.std.specs.Prelude.{◌≡◌, ◌-◌, IfOk};
 
-use crate::{bulk, capabilities, changes, entries};
+use crate::{bulk, capabilities, changes, changes_of_rights, entries};
 use pm_model::{
     Changed, CountList, ElementId, Judge, Memory, Name, NameOf, Pair, PairList, PlaceList, Rights,
     UserList,
@@ -180,5 +180,23 @@ fn what_differs_between_two_lists(rt: HostRuntime) -> Result<(), Fail> {
     assert!(rt; list.as_slice() == wanted.as_slice());
     let none = changes(&after, &after, &new, &new)?;
     assert_eq!(rt; none.len(), 0);
+    Ok(())
+}
+
+#[test]
+fn what_differs_where_names_stay(rt: HostRuntime) -> Result<(), Fail> {
+    let names = Names {
+        fifth: named(&rt, "fifth"),
+        other: named(&rt, "other"),
+    };
+    let old = list_of(rt.alloc(), &[pair(3, 1), pair(5, 1), pair(9, 7)])?;
+    let new = list_of(rt.alloc(), &[pair(2, 8), pair(5, 3), pair(9, 7)])?;
+    let list = changes_of_rights(&names, &names, &old, &new)?;
+    let wanted = [
+        change(names.other, 0, 8),
+        change(names.other, 1, 0),
+        change(names.fifth, 1, 3),
+    ];
+    assert!(rt; list.as_slice() == wanted.as_slice());
     Ok(())
 }

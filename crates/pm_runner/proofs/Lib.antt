@@ -1,4 +1,5 @@
 pub mod AnyMatch
+pub mod Counts
 pub mod Places
 pub mod Steps
 pub mod WorkedTurns

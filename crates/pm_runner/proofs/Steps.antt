@@ -50,10 +50,10 @@ split-at xs i x is = sym (take-append-drop i xs) ∙ ap (λ rest. take i xs ++ r
 
 -- ---- one action
 
-abbrev place_of : ℕ → ℕ → Place
+abbrev pub place_of : ℕ → ℕ → Place
 place_of index i = record { obligation = index + 1; action = i + 1 }
 
-standing-is : (obligations : List Obligation) (index i : ℕ) (o : Obligation) (a : Action) →
+pub standing-is : (obligations : List Obligation) (index i : ℕ) (o : Obligation) (a : Action) →
     slice_get obligations index ≡ Some o → slice_get o.response i ≡ Some a →
     standing obligations (place_of index i) ≡ Some (o, a)
 standing-is obligations index i o a is asked =

@@ -9,6 +9,7 @@ use Rattle.pm_model.specs.declared.actions.Action.{Action}
 use Rattle.pm_model.specs.declared.obligations.Obligation.{Obligation}
 use Rattle.pm_model.specs.declared.obligations.Place.{Place}
 use Rattle.pm_model.specs.declared.replies.Refusal.{Refusal}
+use Rattle.pm_affect.specs.Counting.{judged_acted, judged_response_from, judged_responses}
 
 -- what is responded to: the event's names, the version that the entry will have, the obligations that match, in order
 pub record Occasion : Type 0 where
@@ -70,3 +71,25 @@ pub record IsDue (occasion : Occasion) (G : Graph) (index : ℕ) (o : Obligation
 -- what the action at a place of an obligation makes of a graph, told with the obligation and the number where it is refused
 abbrev pub acted_or_stopped : Occasion → Graph → Place → Obligation → Result Graph Stopped
 acted_or_stopped occasion G place o = or_stopped occasion.names occasion.version o place.action (acted_at occasion G place)
+
+-- ---- how many rights are judged for kept reviews
+
+-- for the responses of these obligations, where they are the first that match
+abbrev pub judged_responded_by : Occasion → Graph → List Obligation → ℕ
+judged_responded_by occasion G obligations = judged_responses occasion.names occasion.version G obligations
+
+-- for all responses
+abbrev pub judged_responded : Occasion → Graph → ℕ
+judged_responded occasion G = judged_responded_by occasion G occasion.obligations
+
+-- for these actions of an obligation, where they are its first; its place counts from 1
+abbrev pub judged_obliged : Occasion → Obligation → ℕ → Graph → List Action → ℕ
+judged_obliged occasion o place G actions = judged_response_from occasion.names occasion.version o place 1 G actions
+
+abbrev pub judged_acted_by : Occasion → Graph → Place → Option (Obligation × Action) → ℕ
+judged_acted_by occasion G place None = 0
+judged_acted_by occasion G place (Some (o, a)) = judged_acted occasion.names occasion.version G o.author place a
+
+-- for the action at a place
+abbrev pub judged_acted_at : Occasion → Graph → Place → ℕ
+judged_acted_at occasion G place = judged_acted_by occasion G place (standing occasion.obligations place)

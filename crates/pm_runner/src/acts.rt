@@ -1,9 +1,10 @@
 //! What a run of responses asks of a machine.
 
-ghost use Rattle.std.specs.Prelude.{◌≡◌, List, OnOk, IfErr, Ok};
+ghost use Rattle.std.specs.Prelude.{◌≡◌, ◌+◌, ℕ, List, OnOk, IfErr, Ok};
 ghost use Rattle.pm_model.specs.State.{Graph};
 ghost use Rattle.pm_model.specs.declared.requests.Entry.{Entry};
-ghost use Rattle.pm_runner.specs.Turns.{Occasion, IsTurn, acted_at};
+ghost use Rattle.pm_affect.specs.Counting.{capped};
+ghost use Rattle.pm_runner.specs.Turns.{Occasion, IsTurn, acted_at, judged_acted_at};
 ghost use Rattle.pm_runner.specs.Outcomes.{IsRefusal};
 
 use crate::errors::ActError;
@@ -20,6 +21,9 @@ pub trait Acts {
     /// The history that led to it, which no action makes longer.
     ghost history: { Self → List Entry };
 
+    /// How many rights it has judged for kept reviews, up to 2^64 - 1.
+    ghost judged: { Self → ℕ };
+
     /// Does the action at the place, whose turn it is, by the authority of its obligation's author; where a guard
     /// fails there is nothing to do. The place counts among the obligations of the occasion. After an error nothing
     /// is said of the graph.
@@ -28,5 +32,6 @@ pub trait Acts {
         ensures ok { OnOk result (acted_at (occasion self.old) (graph self.old) place ≡ Ok (graph self.new)) }
         ensures refused { IfErr result (IsRefusal (acted_at (occasion self.old) (graph self.old) place)) }
         ensures same { occasion self.new ≡ occasion self.old }
-        ensures history { history self.new ≡ history self.old };
+        ensures history { history self.new ≡ history self.old }
+        ensures judged { OnOk result (capped (judged self.new) ≡ capped (judged self.old + judged_acted_at (occasion self.old) (graph self.old) place)) };
 }

@@ -3,7 +3,8 @@
 ghost use Rattle.std.specs.Prelude.{◌≡◌, ◌+◌, ◌<◌, ◌≤◌, length, All, OnOk, IfErr, Ok};
 ghost use Rattle.pm_model.specs.Obligations.{max_obligations};
 ghost use Rattle.pm_runner.specs.Standing.{StandAt};
-ghost use Rattle.pm_runner.specs.Turns.{IsTurn, IsDue, acted_or_stopped, obliged, responded};
+ghost use Rattle.pm_affect.specs.Counting.{capped};
+ghost use Rattle.pm_runner.specs.Turns.{IsTurn, IsDue, acted_or_stopped, judged_acted_at, judged_obliged, judged_responded, obliged, responded};
 ghost use Rattle.pm_runner.specs.Outcomes.{IsStop};
 
 use crate::acts::Acts;
@@ -19,6 +20,7 @@ fn act_at<A: Acts>(acts: &mut A, obligation: &Obligation, place: Place) -> Resul
     ensures stopped { IfErr result (IsStop (acted_or_stopped (A.occasion acts.old) (A.graph acts.old) place obligation.now)) }
     ensures same { A.occasion acts.new ≡ A.occasion acts.old }
     ensures history { A.history acts.new ≡ A.history acts.old }
+    ensures judged { OnOk result (capped (A.judged acts.new) ≡ capped (A.judged acts.old + judged_acted_at (A.occasion acts.old) (A.graph acts.old) place)) }
 {
     match acts.act(place) {
         Ok(()) => Ok(()),
@@ -43,6 +45,7 @@ fn run_obligation<A: Acts>(
     ensures stopped { IfErr result (IsStop (obliged (A.occasion acts.old) obligation.now (index + 1) (A.graph acts.old) obligation.now.response)) }
     ensures same { A.occasion acts.new ≡ A.occasion acts.old }
     ensures history { A.history acts.new ≡ A.history acts.old }
+    ensures judged { OnOk result (capped (A.judged acts.new) ≡ capped (A.judged acts.old + judged_obliged (A.occasion acts.old) obligation.now (index + 1) (A.graph acts.old) obligation.now.response)) }
 {
     let actions = obligation.response.actions();
     for i in 0..actions.len() as u32 {
@@ -71,6 +74,7 @@ pub fn run_responses<A: Acts>(
     ensures stopped { IfErr result (IsStop (responded (A.occasion acts.old) (A.graph acts.old))) }
     ensures same { A.occasion acts.new ≡ A.occasion acts.old }
     ensures history { A.history acts.new ≡ A.history acts.old }
+    ensures judged { OnOk result (capped (A.judged acts.new) ≡ capped (A.judged acts.old + judged_responded (A.occasion acts.old) (A.graph acts.old))) }
 {
     for i in 0..places.len() as u32 {
         let place = *places.at(i as usize);

@@ -55,7 +55,7 @@ empty-listed G none = none-listed no_lists G none of where
   of (Entries e) = refl
 
 -- no change but to keep one makes it otherwise
-none-changed : (G : Graph) (c : Change) → keeps c ≡ false → G.kept ≡ [] → (changed G c).kept ≡ []
+pub none-changed : (G : Graph) (c : Change) → keeps c ≡ false → G.kept ≡ [] → (changed G c).kept ≡ []
 none-changed G (Create id kind name into) but none = none
 none-changed G (Delete id) but none = none
 none-changed G (Assign x y) but none = none

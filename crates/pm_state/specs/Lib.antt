@@ -1,10 +1,12 @@
 pub mod Changes
 pub mod Classes
 pub mod Containing
+pub mod Drafted
 pub mod Judging
 pub mod Kept
 pub mod KeptDraft
 pub mod KeptState
+pub mod Leaving
 pub mod Listing
 pub mod Repairs
 pub mod Shown

@@ -1,8 +1,7 @@
 -- What a change asks of the lists of kept reviews.
-use Rattle.std.specs.Prelude.{◌≡◌, ◌⊎◌, ℕ, Bool, true, false, Some, Ok, option_map}
+use Rattle.std.specs.Prelude.{◌≡◌, ◌⊎◌, ◌+◌, ℕ, Bool, true, false, Some, Ok, option_map}
 use Rattle.pm_model.specs.Effect.{effect}
 use Rattle.pm_model.specs.Formed.{IsNamed, IsWellFormed}
-use Rattle.pm_model.specs.History.{Machine}
 use Rattle.pm_model.specs.KeptReviews.{KeptReview, kept_at}
 use Rattle.pm_model.specs.State.{Graph}
 use Rattle.pm_model.specs.declared.replies.ChangeError.{ChangeError}
@@ -11,6 +10,8 @@ use Rattle.pm_model.specs.declared.requests.Change.{Change}
 use Rattle.pm_model.specs.declared.requests.Change.TheVariants.{Keep, DropReview}
 use Rattle.pm_affect.specs.Affected.{region_of}
 use Rattle.pm_affect.specs.Lists.{Lists}
+use Rattle.pm_affect.specs.Counting.{capped, judged_for}
+use Rattle.pm_state.specs.Drafted.{Drafted}
 use Rattle.pm_state.specs.Listing.{AreListed}
 use Rattle.pm_state.specs.declared.repairs.Repair.{Repair}
 use Rattle.pm_state.specs.declared.repairs.Repair.TheVariants.{More, Less, Within}
@@ -37,7 +38,11 @@ pub record IsDue (L : Lists) (H : Graph) (repair : Repair) : Type 0 where
   pub listed : AreListed L before
   pub asked : IsAsked before change repair
 
+-- the lists have been charged for what the change asked
+abbrev pub IsCharged : Lists → Lists → Graph → Repair → Type 0
+IsCharged L M H repair = (due : IsDue L H repair) → M.asked ≡ capped (L.asked + judged_for due.before due.change)
+
 -- what an error leaves: a refusal the draft as it was, want of memory the draft as it was or changed
-abbrev pub IsLeft : Machine → Machine → Change → ChangeError → Type 0
+abbrev pub IsLeft : Drafted → Drafted → Change → ChangeError → Type 0
 IsLeft old new change (Refused why) = new ≡ old
 IsLeft old new change Memory = (new ≡ old) ⊎ (effect old.graph change ≡ Ok new.graph)

@@ -1,17 +1,20 @@
-ghost use Rattle.std.specs.Prelude.{◌≡◌, ◌<◌, ◌≤◌, ◌∷◌, ◌++◌, [], true, Ok, Some, length, slice_get, slice_set, OnOk, IfOk, IfErr};
+ghost use Rattle.std.specs.Prelude.{◌≡◌, ◌<◌, ◌≤◌, ◌+◌, ◌∷◌, ◌++◌, [], true, Ok, Some, length, slice_get, slice_set, OnOk, IfOk, IfErr};
 ghost use Rattle.std.specs.List.{list_any};
 ghost use Rattle.pm_model.specs.Answer.{longest_history};
 ghost use Rattle.pm_model.specs.Effect.{refusal, effect, IsCause};
 ghost use Rattle.pm_model.specs.Formed.{IsNamed};
-ghost use Rattle.pm_model.specs.History.{IsAnswered, IsLegal};
+ghost use Rattle.pm_model.specs.History.{IsAnswered, IsReplayed, replay};
 ghost use Rattle.pm_model.specs.KeptReviews.{KeptReview, is_kept_of};
 ghost use Rattle.pm_model.specs.Made.{made_by};
 ghost use Rattle.pm_model.specs.Reviews.{list_of};
+ghost use Rattle.pm_affect.specs.Counting.{capped, judged_for, judged_in};
+ghost use Rattle.pm_state.specs.Drafted.{machine_in};
+ghost use Rattle.pm_state.specs.Leaving.{AreNamesKept};
 ghost use Rattle.pm_state.specs.Listing.{AreListed};
 ghost use Rattle.pm_state.specs.Repairs.{IsLeft};
 
 use crate::graph::Graph;
-use crate::repairs::{repair_of, repaired};
+use crate::repairs::{deletes, repair_of, repaired};
 use crate::state::State;
 use pm_affect::KeptLists;
 use pm_history::{History, HistoryError};
@@ -21,20 +24,22 @@ use pm_model::{
 use std::marker::Model;
 
 /// A copy of a state in which one change after another is made, to be one entry together or none. A
-/// change to which nothing responds is made in place, by [`State::enter`]; a request to which obligations
-/// respond, or while reviews are kept, is made in a draft.
+/// change to which nothing responds, and that leaves the kept reviews, is made in place, by [`State::enter`]; a request to
+/// which obligations respond, or that touches a kept review, is made in a draft.
 #[derive(Drop)]
 pub struct Draft {
     graph: Graph,
     /// None once memory was wanting for them.
     lists: Option<KeptLists>,
     history: History,
+    /// Whether some element was deleted in it.
+    deleted: bool,
 }
 
 impl Model for Draft {
-    ghost use Rattle.pm_model.specs.History.{Machine};
+    ghost use Rattle.pm_state.specs.Drafted.{Drafted};
 
-    ghost Value = { Machine };
+    ghost Value = { Drafted };
 
     ghost use Rattle.pm_state.specs.KeptDraft.{drafted_of, IsDraft};
 
@@ -45,15 +50,16 @@ impl Model for Draft {
 
 impl Draft {
     pub(crate) fn begun(graph: Graph, lists: KeptLists, history: History) -> Draft
-        requires legal { IsLegal history.entries }
+        requires replayed { IsReplayed (record { graph = graph; history = history.entries }) }
         requires limit { history.limit ≡ longest_history }
         requires listed { AreListed lists graph }
-        ensures { result ≡ record { graph = graph; history = history.entries } }
+        ensures { result ≡ record { graph = graph; history = history.entries; asked = lists.asked } }
     {
         Draft {
             graph,
             lists: Some(lists),
             history,
+            deleted: false,
         }
     }
 
@@ -62,6 +68,13 @@ impl Draft {
         ensures { result.now ≡ self.now.graph }
     {
         &self.graph
+    }
+
+    /// Whether each element that was live before the draft's first change is live still, by the same name: none was deleted.
+    pub fn keeps_names(&self) -> bool
+        ensures { result ≡ true → AreNamesKept (replay self.now.history).graph self.now.graph }
+    {
+        !self.deleted
     }
 
     /// The lists of all kept reviews: what each answers in the graph as it is now. `Memory` comes once memory was wanting for them.
@@ -89,9 +102,10 @@ impl Draft {
     /// change may be made and the lists of kept reviews not: then the draft can only be dropped, since each later change, `lists`
     /// and `finish` want memory too.
     ///
-    /// While no review is kept it costs what the change does, and a copy of a prohibition that is made or lifted. Else the rights
-    /// of each pair that the change can have changed, and that a kept review is of, are asked for once more, beside what `update`
-    /// of `pm_affect` says; a review that is kept from now on asks for all of its own.
+    /// While no review is kept it costs what the change does, and a copy of a prohibition that is made or lifted; where it touches
+    /// no kept review, also what `touches` of `pm_affect` says. Else the rights of each pair that the change can have changed, and
+    /// that a kept review is of, are asked for once more, beside what `update` of `pm_affect` says; a review that is kept from now
+    /// on asks for all of its own.
     pub fn change(&mut self, change: &Change) -> Result<Made, ChangeError>
         requires { IsNamed self.old.graph change.now }
         ensures ok { OnOk result (effect self.old.graph change.now ≡ Ok self.new.graph) }
@@ -99,6 +113,7 @@ impl Draft {
         ensures refused { IfErr result (IsCause (refusal self.old.graph change.now)) }
         ensures err { IfErr result (IsLeft self.old self.new change.now) }
         ensures history { self.new.history ≡ self.old.history }
+        ensures asked { OnOk result (self.new.asked ≡ capped (self.old.asked + judged_for self.old.graph change.now)) }
     {
         self.graph.formed();
         let asked = match repair_of(&self.graph, change) {
@@ -110,6 +125,8 @@ impl Draft {
             Err(ChangeError::Refused(why)) => return Err(ChangeError::Refused(why)),
             Err(ChangeError::Memory) => return Err(ChangeError::Memory),
         };
+        let more = deletes(change);
+        self.deleted = self.deleted || more;
         self.lists = repaired(self.lists.take(), &self.graph, asked);
         match self.lists {
             Some(_) => Ok(made),
@@ -122,14 +139,16 @@ impl Draft {
         requires { place < length self.old.graph.kept }
         ensures graph { (k : KeptReview) → slice_get self.old.graph.kept place ≡ Some k → self.new.graph ≡ record self.old.graph { kept = slice_set self.old.graph.kept place (record k { at = version; changed = changes }) } }
         ensures history { self.new.history ≡ self.old.history }
+        ensures asked { self.new.asked ≡ self.old.asked }
     {
         self.graph.set_last(place, version, changes);
     }
 
     /// The state with this graph, and the entry at the end of the history. The graph must be what the
-    /// machine's answer to the entry makes. `Full` only where the history has 262,144 entries; the other error is `Memory`.
+    /// machine's answer to the entry makes, and so must be how many rights were judged. `Full` only where the history has 262,144 entries; the other error is `Memory`.
     pub fn finish(self, entry: Entry) -> Result<State, HistoryError>
-        requires { IsAnswered self entry.request }
+        requires answered { IsAnswered (machine_in self) entry.request }
+        requires asked { capped self.asked ≡ capped (judged_in (self.history ++ entry ∷ [])) }
         ensures ok { IfOk result (λ s. s ≡ record { graph = self.graph; history = self.history ++ entry ∷ [] }) }
         ensures room { OnOk result (length self.history < longest_history) }
         ensures full { IfErr result (λ e. e ≡ HistoryError.Full → longest_history ≤ length self.history) }
@@ -138,10 +157,12 @@ impl Draft {
             graph,
             lists,
             mut history,
+            ..
         } = self;
         let Some(lists) = lists else {
             return Err(HistoryError::Memory);
         };
+        lists.kept();
         match history.push(entry) {
             Ok(()) => {}
             Err(error) => return Err(error),

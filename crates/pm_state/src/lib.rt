@@ -22,5 +22,4 @@ pub use asking::{capabilities_of, entries_of, is_user, live_elements, live_users
 pub use draft::Draft;
 pub use graph::Graph;
 pub use judging::GraphJudge;
-pub use repairs::keeps;
 pub use state::State;

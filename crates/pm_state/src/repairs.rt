@@ -1,18 +1,20 @@
 //! The lists of kept reviews, made up for a change of the graph.
-ghost use Rattle.std.specs.Prelude.{◌≡◌, IfOk, IfSome, OnOk};
+ghost use Rattle.std.specs.Prelude.{◌≡◌, false, true, IfOk, IfSome, IsSomeAnd, OnOk};
 ghost use Rattle.std.specs.Option.{option_copied};
 ghost use Rattle.pm_model.specs.Formed.{IsNamed};
 ghost use Rattle.pm_affect.specs.Affected.{lifted_by};
 ghost use Rattle.pm_affect.specs.Lists.{Lists};
+ghost use Rattle.pm_state.specs.Leaving.{LeavesReviews, alters, deletes};
 ghost use Rattle.pm_state.specs.Listing.{AreListed, keeps};
-ghost use Rattle.pm_state.specs.Repairs.{IsAsked, IsDue};
+ghost use Rattle.pm_affect.specs.Counting.{judged_for};
+ghost use Rattle.pm_state.specs.Repairs.{IsAsked, IsCharged, IsDue};
 
 use crate::asking::{list_of, live_elements, live_users};
 use crate::graph::Graph;
 use crate::judging::GraphJudge;
 use pm_affect::{
     KeptLists, Region, list_in_order, lists_right, numbers_rise, region_live, rights_outside,
-    update,
+    touches, update,
 };
 use pm_model::{Bars, Change, ElementId, Memory, Prohibition, ReviewOf};
 
@@ -28,13 +30,33 @@ pub(crate) enum Repair {
 }
 
 /// Whether the change keeps one review more.
-pub fn keeps(change: &Change) -> bool
+fn keeps(change: &Change) -> bool
     ensures { result ≡ keeps change.now }
 {
     match change {
         Change::Keep { .. } => true,
         _ => false,
     }
+}
+
+/// Whether the change makes or ends an element or a kept review.
+fn alters(change: &Change) -> bool
+    ensures { result ≡ alters change.now }
+{
+    match change {
+        Change::Create { .. } => true,
+        Change::Delete { .. } => true,
+        Change::Keep { .. } => true,
+        Change::DropReview { .. } => true,
+        _ => false,
+    }
+}
+
+/// Whether the change ends an element.
+pub(crate) fn deletes(change: &Change) -> bool
+    ensures { result ≡ deletes change.now }
+{
+    matches!(change, Change::Delete { .. })
 }
 
 /// The prohibition that the change lifts, if any.
@@ -63,16 +85,54 @@ pub(crate) fn repair_of(graph: &Graph, change: &Change) -> Result<Repair, Memory
     }
 }
 
-/// Asks again for the rights of the pairs that lie in the region and in the scope of a kept review, each once.
+/// Whether the change leaves the kept reviews of the graph, whose lists these are: none is kept before or after it, or its
+/// region touches none. Only a copy of a prohibition takes memory.
+pub(crate) fn leaves(lists: &KeptLists, graph: &Graph, change: &Change) -> Result<bool, Memory>
+    requires named { IsNamed graph.now change.now }
+    requires listed { AreListed lists.now graph.now }
+    ensures { IfOk result (λ yes. yes ≡ true → LeavesReviews graph.now change.now) }
+{
+    if graph.kept().is_empty() {
+        return Ok(!keeps(change));
+    }
+    if alters(change) {
+        return Ok(false);
+    }
+    graph.formed();
+    lists.kept();
+    let region = Region::of(change, lifted(graph, change))?;
+    let mut reach = graph.reach();
+    let touched = touches(lists, &region, &mut reach);
+    Ok(!touched)
+}
+
+/// Whether the region of the change that has led to the graph may touch a kept review.
+fn are_touched(lists: &KeptLists, graph: &Graph, region: &Region) -> bool
+    requires { IsDue lists.now graph.now (Repair.Within region.now) }
+    ensures listed { result ≡ false → AreListed lists.now graph.now }
+    ensures judged { result ≡ false → (due : IsDue lists.now graph.now (Repair.Within region.now)) → judged_for due.before due.change ≡ 0 }
+{
+    graph.formed();
+    lists.kept();
+    let mut reach = graph.reach();
+    touches(lists, region, &mut reach)
+}
+
+/// Asks again for the rights of the pairs that lie in the region and in the scope of a kept review, each once, and charges the
+/// lists for them.
 fn judge_again(lists: &mut KeptLists, graph: &Graph, region: &Region) -> Result<(), Memory>
     requires { IsDue lists.old graph.now (Repair.Within region.now) }
-    ensures { OnOk result (AreListed lists.new graph.now) }
+    ensures listed { OnOk result (AreListed lists.new graph.now) }
+    ensures charged { OnOk result (IsCharged lists.old lists.new graph.now (Repair.Within region.now)) }
 {
     graph.formed();
     lists.kept();
     lists_right();
     numbers_rise();
     region_live();
+    if !are_touched(lists, graph, region) {
+        return Ok(());
+    }
     let elements = live_elements(graph)?;
     let users = live_users(graph)?;
     let mut reach = graph.reach();
@@ -84,8 +144,10 @@ fn judge_again(lists: &mut KeptLists, graph: &Graph, region: &Region) -> Result<
 /// Does so, where a review is kept and the region isn't empty.
 fn repair_within(lists: &mut KeptLists, graph: &Graph, region: &Region) -> Result<(), Memory>
     requires { IsDue lists.old graph.now (Repair.Within region.now) }
-    ensures { OnOk result (AreListed lists.new graph.now) }
+    ensures listed { OnOk result (AreListed lists.new graph.now) }
+    ensures charged { OnOk result (IsCharged lists.old lists.new graph.now (Repair.Within region.now)) }
 {
+    lists.kept();
     if graph.kept().is_empty() {
         return Ok(());
     }
@@ -99,8 +161,10 @@ fn repair_within(lists: &mut KeptLists, graph: &Graph, region: &Region) -> Resul
 /// Puts the list of a review among the others.
 fn insert(lists: &mut KeptLists, graph: &Graph, of: ReviewOf<ElementId>) -> Result<(), Memory>
     requires { IsDue lists.old graph.now (Repair.More of) }
-    ensures { OnOk result (AreListed lists.new graph.now) }
+    ensures listed { OnOk result (AreListed lists.new graph.now) }
+    ensures charged { OnOk result (IsCharged lists.old lists.new graph.now (Repair.More of)) }
 {
+    lists.kept();
     graph.formed();
     list_in_order();
     let list = list_of(graph, &of)?;
@@ -110,8 +174,10 @@ fn insert(lists: &mut KeptLists, graph: &Graph, of: ReviewOf<ElementId>) -> Resu
 /// Makes the lists those of the graph to which a change has led that asked for this. On Memory some may be as they were.
 fn make_up(lists: &mut KeptLists, graph: &Graph, asked: Repair) -> Result<(), Memory>
     requires { IsDue lists.old graph.now asked }
-    ensures { OnOk result (AreListed lists.new graph.now) }
+    ensures listed { OnOk result (AreListed lists.new graph.now) }
+    ensures charged { OnOk result (IsCharged lists.old lists.new graph.now asked) }
 {
+    lists.kept();
     match asked {
         Repair::More(of) => insert(lists, graph, of),
         Repair::Less(of) => {
@@ -125,7 +191,8 @@ fn make_up(lists: &mut KeptLists, graph: &Graph, asked: Repair) -> Result<(), Me
 /// The lists once they are those of the graph; None where there were none, and where memory is wanting.
 pub(crate) fn repaired(lists: Option<KeptLists>, graph: &Graph, asked: Repair) -> Option<KeptLists>
     requires { IfSome lists (λ (L : Lists). IsDue L graph.now asked) }
-    ensures { IfSome result (λ (L : Lists). AreListed L graph.now) }
+    ensures listed { IfSome result (λ (L : Lists). AreListed L graph.now) }
+    ensures charged { IfSome result (λ (M : Lists). IsSomeAnd lists (λ (L : Lists). IsCharged L M graph.now asked)) }
 {
     let mut lists = lists?;
     match make_up(&mut lists, graph, asked) {

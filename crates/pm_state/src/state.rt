@@ -1,4 +1,4 @@
-ghost use Rattle.std.specs.Prelude.{◌≡◌, ◌<◌, ◌≤◌, ◌∷◌, ◌++◌, [], false, true, None, Ok, length, slice_get, OnOk, OnErr, IfOk, IfErr};
+ghost use Rattle.std.specs.Prelude.{◌≡◌, ◌<◌, ◌≤◌, ◌∷◌, ◌++◌, [], true, None, Ok, length, slice_get, OnOk, OnErr, IfOk, IfErr};
 ghost use Rattle.std.specs.List.{list_any};
 ghost use Rattle.std.specs.Option.{option_copied};
 ghost use Rattle.pm_model.specs.Effect.{effect, IsCause};
@@ -9,10 +9,13 @@ ghost use Rattle.pm_model.specs.KeptReviews.{is_kept_of};
 ghost use Rattle.pm_model.specs.Made.{made_by};
 ghost use Rattle.pm_model.specs.Reviews.{list_of};
 ghost use Rattle.pm_laws.specs.Meaning.{AreGivenBy};
-ghost use Rattle.pm_state.specs.Listing.{AreListed, keeps};
+ghost use Rattle.pm_affect.specs.Counting.{capped, judged_by, judged_for, judged_in};
+ghost use Rattle.pm_state.specs.Leaving.{LeavesReviews};
+ghost use Rattle.pm_state.specs.Listing.{AreListed};
 
 use crate::draft::Draft;
 use crate::graph::Graph;
+use crate::repairs::leaves;
 use pm_affect::KeptLists;
 use pm_history::{History, HistoryError};
 use pm_model::{
@@ -73,6 +76,7 @@ impl State {
         requires replayed { IsReplayed (record { graph = graph; history = history.entries }) }
         requires limit { history.limit ≡ longest_history }
         requires listed { AreListed lists graph }
+        requires asked { lists.asked ≡ capped (judged_in history.entries) }
         ensures { result ≡ record { graph = graph; history = history.entries } }
     {
         State {
@@ -123,6 +127,15 @@ impl State {
         }
     }
 
+    /// How many rights were judged for kept reviews in all entries up to this version, up to 2^64 - 1: for each change, of a
+    /// request or of a response to it, one for each pair of a user and an element that lies in the region of the change and in
+    /// the scope of a review that is kept then. A review that is made or dropped asks for none.
+    pub fn asked(&self) -> u64
+        ensures { result ≡ capped (judged_in self.now.history) }
+    {
+        self.lists.asked()
+    }
+
     /// What each state keeps: its history is legal, and it is the replay of its history.
     pub fn replayed(&self)
         ensures { IsReplayed self.now }
@@ -149,14 +162,28 @@ impl State {
         }
     }
 
+    /// Whether the change leaves the lists of all kept reviews, so that it can be made in place. It may say no where it leaves
+    /// them: to a change that makes or ends an element, or one that changes what an element is assigned to, while a review is
+    /// kept. `Memory` comes only where a prohibition is copied, one that is made or lifted.
+    ///
+    /// It costs a question or two at most for each kept review, and none where the change can change no rights; of a
+    /// prohibition as many as its sets have elements.
+    pub fn leaves_reviews(&self, change: &Change) -> Result<bool, Memory>
+        requires { IsNamed self.now.graph change.now }
+        ensures { IfOk result (λ yes. yes ≡ true → LeavesReviews self.now.graph change.now) }
+    {
+        leaves(&self.lists, &self.graph, change)
+    }
+
     /// Makes one change, to which nothing responds, in place as an entry of the history, or tells the first
-    /// precondition that isn't met, a full history last. No review may be kept before it, so that no last change is to be
-    /// told, and none by it: so there are no lists to make up. A refusal leaves the state, and so does want of memory.
+    /// precondition that isn't met, a full history last. It must leave the lists of all kept reviews, as `leaves_reviews` says:
+    /// so there are no lists to make up, and no last change is to be told. A refusal leaves the state, and so does want of
+    /// memory.
     pub fn enter(&mut self, change: &Change, entry: Entry) -> Result<Made, ChangeError>
         requires named { IsNamed self.old.graph change.now }
         requires asked { proposed (state_of self.old) entry.request ≡ entered (state_of self.old) None change.now }
-        requires none { self.old.graph.kept ≡ [] }
-        requires no_more { keeps change.now ≡ false }
+        requires judged { judged_by (state_of self.old) entry.request ≡ judged_for self.old.graph change.now }
+        requires leaves { LeavesReviews self.old.graph change.now }
         ensures ok { OnOk result (effect self.old.graph change.now ≡ Ok self.new.graph) }
         ensures history { OnOk result (self.new.history ≡ self.old.history ++ entry ∷ []) }
         ensures room { OnOk result (length self.old.history < longest_history) }
@@ -205,7 +232,7 @@ impl State {
 
     /// A copy in which one change after another can be made, to be one entry together.
     pub fn draft(&self) -> Result<Draft, Memory>
-        ensures { IfOk result (λ d. d ≡ self.now) }
+        ensures { IfOk result (λ d. d ≡ record { graph = self.now.graph; history = self.now.history; asked = capped (judged_in self.now.history) }) }
     {
         let graph = self.graph.copy()?;
         let lists = self.lists.copy()?;

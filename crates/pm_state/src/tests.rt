@@ -1,9 +1,10 @@
 //! Each call once with memory enough, with answers worked out by hand. What each change is refused for, the
 //! requests of the crate above show.
 
-ghost use Rattle.std.specs.Prelude.{◌≡◌, [], None, Ok};
+ghost use Rattle.std.specs.Prelude.{◌≡◌, ◌+◌, [], None, Ok};
 ghost use Rattle.pm_model.specs.Effect.{effect};
 ghost use Rattle.pm_model.specs.Formed.{AreNamed, IsLive, IsNamed};
+ghost use Rattle.pm_affect.specs.Counting.{capped, judged_for};
 
 use crate::{Draft, Graph, State};
 use pm_model::{
@@ -45,16 +46,15 @@ fn started(answer: Result<Made, ChangeError>) -> Option<u32> {
     }
 }
 
-/// Starts a process in session 0, where no review is kept.
-#[tactic(auto, using(std::proofs::lemmas::List::nil_from_length))]
+/// Starts a process in session 0, which leaves the kept reviews.
 fn start(state: &mut State, seat: u32) -> Option<u32> {
-    if !state.graph().kept().is_empty() {
-        return None;
-    }
     state.given();
     let _version = state.version();
     let change = Change::StartProcess { session: 0 };
-    started(state.enter(&change, start_by(seat)))
+    match state.leaves_reviews(&change) {
+        Ok(true) => started(state.enter(&change, start_by(seat))),
+        _ => None,
+    }
 }
 
 /// The seat of the entry at a place.
@@ -101,6 +101,7 @@ fn start_drafted(rt: &impl Abort, draft: &mut Draft)
     requires { IsNamed draft.old.graph (Change.StartProcess 0) }
     ensures graph { effect draft.old.graph (Change.StartProcess 0) ≡ Ok draft.new.graph }
     ensures history { draft.new.history ≡ draft.old.history }
+    ensures asked { draft.new.asked ≡ capped (draft.old.asked + judged_for draft.old.graph (Change.StartProcess 0)) }
 {
     let change = Change::StartProcess { session: 0 };
     assert!(rt; draft.change(&change).is_ok());
@@ -251,7 +252,9 @@ fn opening_draft(rt: &(impl Abort + Alloc<A = Global>)) -> Draft {
 #[test]
 fn what_a_kept_review_is_of_is_in_use(rt: HostRuntime) {
     let mut draft = opening_draft(&rt);
+    assert!(rt; draft.keeps_names());
     assert_eq!(rt; deletions(&rt, &mut draft), ("in use", "deleted"));
+    assert!(rt; !draft.keeps_names());
 }
 
 /// There is a right of bit 0.

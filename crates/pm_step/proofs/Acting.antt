@@ -3,8 +3,8 @@ use Rattle.std.proofs.Common.{◌≡◌, ◌-◌, ◌<◌, ℕ, List, length, So
 use Rattle.std.proofs.lemmas.List.Elements.{All-contains}
 use Rattle.std.proofs.lemmas.Option.{slice_get_within, same_Some}
 use Rattle.pm_model.specs.State.{Graph}
-use Rattle.pm_model.specs.History.{Machine}
 use Rattle.pm_model.specs.Responses.{acted}
+use Rattle.pm_affect.specs.Counting.{judged_acted}
 use Rattle.pm_model.specs.Formed.{IsUser, IsWellFormed}
 use Rattle.pm_model.specs.declared.actions.Action.{Action}
 use Rattle.pm_model.specs.declared.events.EventNames.{EventNames}
@@ -13,9 +13,10 @@ use Rattle.pm_model.specs.declared.obligations.Place.{Place}
 use Rattle.pm_laws.proofs.Items.{get-contains}
 use Rattle.pm_laws.proofs.Live.{author_is}
 use Rattle.pm_laws.proofs.Responding.{responses_keep_obligations}
-use Rattle.pm_runner.specs.Turns.{Occasion, IsTurn, acted_at}
+use Rattle.pm_runner.specs.Turns.{Occasion, IsTurn, acted_at, judged_acted_at}
 use Rattle.pm_runner.proofs.Places.{as_many, stands_at}
 use Rattle.pm_runner.proofs.Steps.{standing-parts, turn-made}
+use Rattle.pm_state.specs.Drafted.{Drafted}
 use Rattle.pm_step.specs.Responders.{items_at, AreResponders, IsLeftBy}
 
 module _ (names : EventNames) (version : ℕ) (obligations : List Obligation) (places : List ℕ) (G : Graph) (place : Place) where
@@ -53,6 +54,10 @@ module _ (names : EventNames) (version : ℕ) (obligations : List Obligation) (p
         acted_at occasion G place ≡ acted names version G o.author place a
     acted-is a h asked = rw (stands-there h, asked) refl
 
+    pub acted-counted : (a : Action) → AreResponders obligations places G → slice_get o.response (place.action - 1) ≡ Some a →
+        judged_acted_at occasion G place ≡ judged_acted names version G o.author place a
+    acted-counted a h asked = rw (stands-there h, asked) refl
+
   -- the obligations stand in the graph behind it
   pub responders-stay : (H : Graph) → AreResponders obligations places G → IsTurn occasion G place → acted_at occasion G place ≡ Ok H →
       AreResponders obligations places H
@@ -64,12 +69,12 @@ module _ (names : EventNames) (version : ℕ) (obligations : List Obligation) (p
       record { at = h.at; below = h.below; stand = λ o c. subst (λ os. Contains os o) same (h.stand o c) }
 
   -- whether it is done or not
-  pub responders-stay-either : {A E : Type 0} (result : Result A E) (before behind : Machine) → before.graph ≡ G →
+  pub responders-stay-either : {A E : Type 0} (result : Result A E) (before behind : Drafted) → before.graph ≡ G →
       OnOk result (acted_at occasion G place ≡ Ok behind.graph) → OnErr result (IsLeftBy before behind (acted_at occasion G place)) →
       AreResponders obligations places G → IsTurn occasion G place → AreResponders obligations places behind.graph
   responders-stay-either (Ok a) before behind is done left h turn = responders-stay behind.graph h turn done
   responders-stay-either (Err e) before behind is done left h turn = elim left [
-    | inl same ↦ subst (λ (K : Graph). AreResponders obligations places K) (sym is ∙ ap (λ (M : Machine). M.graph) (sym same)) h
+    | inl same ↦ subst (λ (K : Graph). AreResponders obligations places K) (sym is ∙ ap (λ (D : Drafted). D.graph) (sym same)) h
     | inr made ↦ responders-stay behind.graph h turn made
   ]
 

@@ -1,4 +1,5 @@
 mod Acting
+mod Counted
 mod Glancing
 mod Placed
 mod Resolved

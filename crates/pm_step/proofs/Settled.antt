@@ -1,16 +1,34 @@
 -- The kept reviews settled one after another.
-use Rattle.std.proofs.Common.{◌≡◌, ◌≤◌, ◌<◌, ◌+◌, ℕ, zero, suc, Bool, true, false, List, [], ◌∷◌, length, map, Option, Some, None, option_map, inl, inr, slice_get, slice_set, refl, sym, ◌∙◌, ap, subst, arith}
+use Rattle.std.proofs.Common.{◌≡◌, ◌≤◌, ◌<◌, ◌+◌, ℕ, zero, suc, Bool, true, false, List, [], ◌∷◌, length, map, Option, Some, None, option_map, is_some, IsTrue, inl, inr, slice_get, slice_set, refl, sym, ◌∙◌, ap, subst, arith}
 use Rattle.std.specs.List.{list_any}
+use Rattle.std.proofs.lemmas.List.Elements.{All-weaker}
 use Rattle.std.proofs.lemmas.Option.{same_Some, slice_get_cases}
-use Rattle.pm_model.specs.State.{Graph}
+use Rattle.pm_model.specs.History.{IsReplayed, Machine, replay}
+use Rattle.pm_model.specs.State.{Graph, State, element_at, name_numbered}
 use Rattle.pm_model.specs.KeptReviews.{KeptReview, is_kept_as, is_kept_of, kept_at}
 use Rattle.pm_model.specs.LastChanges.{changes_in, with_last, settled_review, with_changes}
+use Rattle.pm_model.specs.declared.requests.Entry.{Entry}
 use Rattle.pm_model.specs.declared.reviews.Changed.{Changed}
+use Rattle.pm_model.specs.declared.reviews.Pair.{Pair}
 use Rattle.pm_model.specs.declared.reviews.ReviewOf.{ReviewOf}
 use Rattle.pm_model.specs.declared.reviews.ReviewOf.TheVariants.{Caps, Entries}
 use Rattle.pm_laws.proofs.Items.{any-from, find-found, get-contains}
 use Rattle.pm_laws.proofs.KeptReviews.{is-same, same-is}
+use Rattle.pm_review.specs.Rising.{AllAlike, AllNamed}
+use Rattle.pm_state.specs.Drafted.{Drafted}
+use Rattle.pm_state.specs.Leaving.{AreNamesKept}
 use Rattle.pm_step.specs.Settling.{is_kept_so}
+
+-- ---- names
+
+-- those of a list of the graph that a draft began from, where the draft has kept them
+pub names-alike : (M : Machine) (D : Drafted) (list : List Pair) → IsReplayed M → D.history ≡ M.history → AreNamesKept (replay D.history).graph D.graph →
+    AllNamed (λ n. is_some (element_at M.graph.elements n)) list → AllAlike (name_numbered M.graph.elements) (name_numbered D.graph.elements) list
+names-alike M D list replayed same kept named =
+    let began : (replay D.history).graph ≡ M.graph = ap (λ (h : List Entry). (replay h).graph) same ∙ ap (λ (S : State). S.graph) replayed.content in
+    let names : AreNamesKept M.graph D.graph = subst (λ (G : Graph). AreNamesKept G D.graph) began kept in
+    All-weaker (λ (p : Pair). IsTrue (is_some (element_at M.graph.elements p.element)))
+    (λ (p : Pair). name_numbered M.graph.elements p.element ≡ name_numbered D.graph.elements p.element) (λ p live. sym (names.names p.element live)) list named
 
 -- ---- one of them
 

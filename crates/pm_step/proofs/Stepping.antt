@@ -18,7 +18,6 @@ use Rattle.pm_model.specs.declared.replies.Refusal.TheVariants.{Full}
 use Rattle.pm_model.specs.declared.replies.Table.TheVariants.{History}
 use Rattle.pm_model.specs.declared.replies.Reply.{Reply}
 use Rattle.pm_model.specs.declared.replies.Reply.TheVariants.{Done, Refused}
-use Rattle.pm_laws.proofs.KeptReviews.{with_changes_none}
 use Rattle.pm_laws.proofs.Replayed.{bounded}
 use Rattle.pm_step.specs.Answered.{HasAnswered, IsStep}
 use Rattle.pm_step.specs.Settling.{reviews_settled}
@@ -132,11 +131,11 @@ step-accepted M N e reply is = record {
   history = is.1 ∙ sym (ap (λ (a : Answer). M.history ++ entries_of a.next e) is.0);
 }
 
--- a change made in place, where no review is kept
+-- a change made in place, where no last change is to be told
 pub made-answered : (M N : Machine) (e : Entry) (c : Change) (reply : Reply) → proposed (state_of M) e.request ≡ entered (state_of M) None c →
-    M.graph.kept ≡ [] → effect M.graph c ≡ Ok N.graph → length M.history < longest_history → N.history ≡ M.history ++ e ∷ [] →
+    with_changes M.graph (length M.history + 1) N.graph ≡ N.graph → effect M.graph c ≡ Ok N.graph → length M.history < longest_history → N.history ≡ M.history ++ e ∷ [] →
     reply ≡ Done 0 (shown_of (made_by M.graph c)) → HasAnswered M N e reply
-made-answered M N e c reply proposal none made room grows says = step-accepted M N e reply (full, grows) where
+made-answered M N e c reply proposal settled made room grows says = step-accepted M N e reply (full, grows) where
   S : State
   S = state_of M
 
@@ -149,7 +148,7 @@ made-answered M N e c reply proposal none made room grows says = step-accepted M
   next-is : next ≡ state_of N
   next-is =
       ap (λ (K : Graph). let T : State = record { graph = K; version = S.version + 1 } in T)
-      (with_changes_none S.graph N.graph (S.version + 1) none)
+      settled
       ∙ ap (λ (n : ℕ). let T : State = record { graph = N.graph; version = n } in T) long
 
   full : answer S e.request ≡ record { reply = reply; next = Some (state_of N) }

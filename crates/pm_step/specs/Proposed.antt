@@ -1,11 +1,12 @@
 -- What a request comes to before anything is changed.
-use Rattle.std.specs.Prelude.{Option, None, Some, IfSome}
+use Rattle.std.specs.Prelude.{ℕ, Option, None, Some, IfSome}
 use Rattle.pm_model.specs.State.{State, Graph}
 use Rattle.pm_model.specs.Answer.{Answer, told, entered, granted}
 use Rattle.pm_model.specs.Events.{raised}
 use Rattle.pm_model.specs.Formed.{IsLive, IsNamed}
 use Rattle.pm_model.specs.declared.events.Event.{Event}
 use Rattle.pm_model.specs.declared.requests.Change as requests
+use Rattle.pm_affect.specs.Counting.{judged_entered, judged_granted}
 use Rattle.pm_pattern.specs.Live.{IsEventLive}
 use Rattle.pm_state.specs.Containing.{relation_in}
 use Rattle.pm_step.specs.declared.proposals.Actor.{Actor}
@@ -22,6 +23,12 @@ abbrev pub answer_by : State → Proposal → Answer
 answer_by S (Told reply) = told reply
 answer_by S (Change change by) = entered S (event_by S.graph by change) change
 answer_by S (Granted e) = granted S e
+
+-- how many rights are judged for kept reviews by it
+abbrev pub judged_by_proposal : State → Proposal → ℕ
+judged_by_proposal S (Told reply) = 0
+judged_by_proposal S (Change change by) = judged_entered S (event_by S.graph by change) change
+judged_by_proposal S (Granted e) = judged_granted S e
 
 -- the user who acts is live
 abbrev pub IsActorLive : Graph → Option Actor → Type 0

@@ -4,7 +4,7 @@ use Rattle.pm_model.specs.State.{Graph}
 use Rattle.pm_model.specs.declared.obligations.Obligation.{Obligation}
 use Rattle.pm_model.specs.declared.requests.Change.{Change}
 use Rattle.pm_model.specs.declared.requests.Change.TheVariants as change
-use Rattle.pm_model.specs.History.{Machine}
+use Rattle.pm_state.specs.Drafted.{Drafted}
 use Rattle.pm_runner.specs.Standing.{StandAt}
 use Rattle.pm_runner.specs.Turns.{Occasion}
 
@@ -32,8 +32,8 @@ withdrawn _ = None
 -- what is responded to, and the draft as it is now
 pub record Underway : Type 0 where
   pub occasion : Occasion
-  pub machine : Machine
+  pub draft : Drafted
 
 -- after an error the draft is as it was, or what was to be done in it is done
-abbrev pub IsLeftBy : {E : Type 0} → Machine → Machine → Result Graph E → Type 0
+abbrev pub IsLeftBy : {E : Type 0} → Drafted → Drafted → Result Graph E → Type 0
 IsLeftBy old new came = (new ≡ old) ⊎ (came ≡ Ok new.graph)

@@ -1,5 +1,5 @@
-//! Entries that are made in a draft, and are the next state or nothing: those to which obligations respond, and all while
-//! reviews are kept.
+//! Entries that are made in a draft, and are the next state or nothing: those to which obligations respond, and those that may
+//! touch a kept review.
 ghost use Rattle.std.specs.Prelude.{◌≡◌, ◌≤◌, ◌<◌, ◌+◌, [], length, nat_lt, None, Some, Result, Ok, All, IfOk, IfErr, IfSome, true};
 ghost use Rattle.pm_model.specs.Answer.{entered, granted, proposed, responded, settled, told};
 ghost use Rattle.pm_model.specs.Events.{names_in, obliging, responders};
@@ -8,6 +8,7 @@ ghost use Rattle.pm_model.specs.History.{state_of};
 ghost use Rattle.pm_model.specs.LastChanges.{with_changes};
 ghost use Rattle.pm_model.specs.Obligations.{max_obligations};
 ghost use Rattle.pm_model.specs.Responses.{Stopped, responses};
+ghost use Rattle.pm_affect.specs.Counting.{capped, judged_by, judged_entered, judged_for, judged_granted, judged_in, judged_responded, judged_responses};
 ghost use Rattle.pm_runner.specs.Outcomes.{IsStop};
 ghost use Rattle.pm_pattern.specs.Live.{IsEventLive};
 ghost use Rattle.pm_state.specs.Containing.{relation_in};
@@ -99,6 +100,7 @@ fn places_of(graph: &Graph, event: &Event, left_out: Option<u32>) -> Result<Posi
 fn finish(state: &State, mut draft: Draft, reply: Reply, entry: Entry) -> Result<Stepped, Memory>
     requires history { draft.history ≡ state.now.history }
     requires asked { proposed (state_of state.now) entry.request ≡ record { reply = reply; next = Some (record { graph = with_changes state.now.graph (length state.now.history + 1) draft.graph; version = length state.now.history + 1 }) } }
+    requires judged { capped draft.asked ≡ capped (judged_in state.now.history + judged_by (state_of state.now) entry.request) }
     ensures { IfOk result (IsStep state.now entry) }
 {
     state.replayed();
@@ -126,6 +128,7 @@ fn run_in(
     requires live { IsEventLive (relation_in graph.now) event.now }
     ensures ok { IfOk result (λ d. responses (names_in graph.now event.now) version draft.graph (items_at graph.now.obligations places.now) ≡ Ok d.graph) }
     ensures history { IfOk result (λ d. d.history ≡ draft.history) }
+    ensures judged { IfOk result (λ d. capped d.asked ≡ capped (draft.asked + judged_responses (names_in graph.now event.now) version draft.graph (items_at graph.now.obligations places.now))) }
     ensures stopped { IfErr result (IsStop (responses (names_in graph.now event.now) version draft.graph (items_at graph.now.obligations places.now))) }
 {
     let obligations = graph.obligations();
@@ -164,6 +167,7 @@ fn settle(
     requires few { length places.now ≤ max_obligations }
     requires live { IsEventLive (relation_in state.now.graph) event.now }
     requires asked { proposed (state_of state.now) entry.request ≡ settled (state_of state.now) reply (responded (state_of state.now) (Some event.now) (items_at state.now.graph.obligations places.now) draft.graph) }
+    requires judged { capped (draft.asked + judged_responded (state_of state.now) (Some event.now) (items_at state.now.graph.obligations places.now) draft.graph) ≡ capped (judged_in state.now.history + judged_by (state_of state.now) entry.request) }
     ensures { IfOk result (IsStep state.now entry) }
 {
     let version = state.version() + 1;
@@ -181,6 +185,7 @@ pub(crate) fn enter_in_draft(
 ) -> Result<Stepped, Memory>
     requires named { IsNamed state.now.graph change.now }
     requires asked { proposed (state_of state.now) entry.request ≡ entered (state_of state.now) None change.now }
+    requires judged { judged_by (state_of state.now) entry.request ≡ judged_for state.now.graph change.now }
     ensures { IfOk result (IsStep state.now entry) }
 {
     let mut draft = state.draft()?;
@@ -202,6 +207,7 @@ pub(crate) fn respond_to_change(
     requires named { IsNamed state.now.graph change.now }
     requires live { IsEventLive (relation_in state.now.graph) event.now }
     requires asked { proposed (state_of state.now) entry.request ≡ entered (state_of state.now) (Some event.now) change.now }
+    requires judged { judged_by (state_of state.now) entry.request ≡ judged_entered (state_of state.now) (Some event.now) change.now }
     ensures { IfOk result (IsStep state.now entry) }
 {
     let places = places_of(state.graph(), event, withdrawn(change))?;
@@ -224,6 +230,7 @@ pub(crate) fn respond_to_access(
     requires live { IsEventLive (relation_in state.now.graph) event.now }
     requires some { nat_lt 0 (length (responders state.now.graph state.now.graph.obligations (Some event.now))) ≡ true }
     requires asked { proposed (state_of state.now) entry.request ≡ granted (state_of state.now) event.now }
+    requires judged { judged_by (state_of state.now) entry.request ≡ judged_granted (state_of state.now) event.now }
     ensures { IfOk result (IsStep state.now entry) }
 {
     let places = places_of(state.graph(), event, None)?;

@@ -1,8 +1,9 @@
 //! The responses of obligations, run in a draft.
-ghost use Rattle.std.specs.Prelude.{◌≡◌, ◌≤◌, length, Ok, OnOk, OnErr, IfOk, IfErr};
+ghost use Rattle.std.specs.Prelude.{◌≡◌, ◌+◌, ◌≤◌, length, Ok, OnOk, OnErr, IfOk, IfErr};
 ghost use Rattle.pm_model.specs.Formed.{IsUser};
 ghost use Rattle.pm_model.specs.Obligations.{max_obligations};
 ghost use Rattle.pm_model.specs.Responses.{acted, commanded, responses};
+ghost use Rattle.pm_affect.specs.Counting.{capped, judged_acted, judged_commanded, judged_responses};
 ghost use Rattle.pm_runner.specs.Outcomes.{IsRefusal, IsStop};
 ghost use Rattle.pm_step.specs.Responders.{AreResponders, IsLeftBy, items_at};
 
@@ -20,6 +21,7 @@ fn give(draft: &mut Draft, author: ElementId, command: &Command) -> Result<(), A
     ensures refused { IfErr result (IsRefusal (commanded draft.old.graph author command.now)) }
     ensures err { OnErr result (IsLeftBy draft.old draft.new (commanded draft.old.graph author command.now)) }
     ensures history { draft.new.history ≡ draft.old.history }
+    ensures judged { OnOk result (draft.new.asked ≡ capped (draft.old.asked + judged_commanded draft.old.graph author command.now)) }
 {
     let change = match permit(draft.graph(), author, None, command) {
         Ok(change) => change,
@@ -47,6 +49,7 @@ fn act_by(
     ensures refused { IfErr result (IsRefusal (acted names.now version draft.old.graph author place action.now)) }
     ensures err { OnErr result (IsLeftBy draft.old draft.new (acted names.now version draft.old.graph author place action.now)) }
     ensures history { draft.new.history ≡ draft.old.history }
+    ensures judged { OnOk result (capped draft.new.asked ≡ capped (draft.old.asked + judged_acted names.now version draft.old.graph author place action.now)) }
 {
     let fresh = fresh_name(place, version);
     match all_hold(draft.graph(), names, fresh, action.guards.as_slice()) {
@@ -78,7 +81,7 @@ impl<'a> Model for Responding<'a> {
 
     ghost Value = { Underway };
 
-    ghost view = { λ s. record { occasion = record { names = s.names; version = s.version; obligations = items_at s.obligations.now.items s.places.now }; machine = s.draft } };
+    ghost view = { λ s. record { occasion = record { names = s.names; version = s.version; obligations = items_at s.obligations.now.items s.places.now }; draft = s.draft } };
 
     ghost invariant = { λ s. AreResponders s.obligations.now.items s.places.now s.draft.graph };
 }
@@ -86,9 +89,11 @@ impl<'a> Model for Responding<'a> {
 impl<'a> Acts for Responding<'a> {
     ghost occasion = { λ s. s.occasion };
 
-    ghost graph = { λ s. s.machine.graph };
+    ghost graph = { λ s. s.draft.graph };
 
-    ghost history = { λ s. s.machine.history };
+    ghost history = { λ s. s.draft.history };
+
+    ghost judged = { λ s. s.draft.asked };
 
     fn act(&mut self, place: Place) -> Result<(), ActError> {
         self.draft.graph().formed();
@@ -120,6 +125,7 @@ pub(crate) fn respond(
     requires few { length places.now ≤ max_obligations }
     ensures ok { IfOk result (λ d. responses names version draft.graph (items_at obligations.now.items places.now) ≡ Ok d.graph) }
     ensures history { IfOk result (λ d. d.history ≡ draft.history) }
+    ensures judged { IfOk result (λ d. capped d.asked ≡ capped (draft.asked + judged_responses names version draft.graph (items_at obligations.now.items places.now))) }
     ensures stopped { IfErr result (IsStop (responses names version draft.graph (items_at obligations.now.items places.now))) }
 {
     let mut acts = Responding {

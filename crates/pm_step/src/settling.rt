@@ -6,20 +6,29 @@ ghost use Rattle.pm_model.specs.LastChanges.{changes_in, settled_review};
 ghost use Rattle.pm_step.specs.Settling.{is_kept_so, reviews_settled};
 
 use pm_model::{ChangeList, ElementId, Memory, ReviewOf};
-use pm_review::{changes, lists_rise};
+use pm_review::{changes, changes_of_rights, lists_rise};
 use pm_state::{Draft, Graph, State};
 
-// What differs in the list of a review that is kept in both.
+// What differs in the list of a review that is kept in both. Names are asked for of all elements in it only where one was
+// deleted in the draft.
 fn changes_in(before: &State, draft: &Draft, of: &ReviewOf<ElementId>) -> Result<ChangeList, Memory>
     requires before { list_any (is_kept_of of.now) before.now.graph.kept ≡ true }
     requires after { list_any (is_kept_of of.now) draft.now.graph.kept ≡ true }
+    requires history { draft.now.history ≡ before.now.history }
     ensures { IfOk result (λ list. list ≡ changes_in before.now.graph draft.now.graph of.now) }
 {
     before.graph().formed();
     draft.graph().formed();
+    before.replayed();
     lists_rise();
+    let old = before.list(of);
     let new = draft.list(of)?;
-    changes(before.graph(), draft.graph(), before.list(of), new)
+    let was = before.graph();
+    let is = draft.graph();
+    if draft.keeps_names() {
+        return changes_of_rights(was, is, old, new);
+    }
+    changes(was, is, old, new)
 }
 
 // Whether both are one review.
@@ -45,9 +54,11 @@ fn was_kept(before: &Graph, number: u32, of: &ReviewOf<ElementId>) -> bool
 
 // Gives the review at a place its last change, where the entry has changed its list.
 fn settle_at(before: &State, draft: &mut Draft, place: usize, version: u64) -> Result<(), Memory>
-    requires { place < length draft.old.graph.kept }
+    requires place { place < length draft.old.graph.kept }
+    requires history { draft.old.history ≡ before.now.history }
     ensures ok { OnOk result ((k : KeptReview) → slice_get draft.old.graph.kept place ≡ Some k → draft.new.graph ≡ record draft.old.graph { kept = slice_set draft.old.graph.kept place (settled_review before.now.graph draft.old.graph version k) }) }
     ensures history { draft.new.history ≡ draft.old.history }
+    ensures asked { draft.new.asked ≡ draft.old.asked }
 {
     let Some((number, of)) = draft.graph().kept().at(place) else {
         unreachable!()
@@ -63,11 +74,14 @@ fn settle_at(before: &State, draft: &mut Draft, place: usize, version: u64) -> R
 }
 
 /// Gives each kept review of the draft its last change, where the entry of this version has changed its list since this
-/// state. The lists that stand in the state and in the draft are compared: that costs their lengths, and asks for no rights.
-/// On Memory some reviews may have theirs, and the draft can't be used.
+/// state, from which the draft began. The lists that stand in the state and in the draft are compared: that costs their
+/// lengths, and asks for no rights, and for names only of what has changed, unless an element was deleted. On Memory some
+/// reviews may have theirs, and the draft can't be used.
 pub(crate) fn settle_reviews(before: &State, draft: &mut Draft, version: u64) -> Result<(), Memory>
+    requires { draft.old.history ≡ before.now.history }
     ensures ok { OnOk result (draft.new.graph ≡ reviews_settled before.now.graph version draft.old.graph) }
     ensures history { draft.new.history ≡ draft.old.history }
+    ensures asked { draft.new.asked ≡ draft.old.asked }
 {
     for place in 0..draft.graph().kept().len() {
         settle_at(before, draft, place, version)?;

@@ -1,13 +1,14 @@
 //! One request as a step: in place, or from one state to the next.
-ghost use Rattle.std.specs.Prelude.{◌≡◌, [], length, nat_lt, None, Some, IfOk, IsOk, OnErr, false, true};
+ghost use Rattle.std.specs.Prelude.{◌≡◌, length, nat_lt, None, Some, IfOk, IsOk, OnErr, true};
 ghost use Rattle.pm_model.specs.Answer.{entered, granted, proposed};
 ghost use Rattle.pm_model.specs.Events.{responders};
 ghost use Rattle.pm_model.specs.Formed.{IsNamed};
 ghost use Rattle.pm_model.specs.History.{state_of};
 ghost use Rattle.pm_model.specs.declared.requests.Entry.{Entry};
+ghost use Rattle.pm_affect.specs.Counting.{judged_by, judged_entered, judged_for, judged_granted};
 ghost use Rattle.pm_pattern.specs.Live.{IsEventLive};
 ghost use Rattle.pm_state.specs.Containing.{relation_in};
-ghost use Rattle.pm_state.specs.Listing.{keeps};
+ghost use Rattle.pm_state.specs.Leaving.{LeavesReviews};
 ghost use Rattle.pm_step.specs.Answered.{HasAnswered, IsStep};
 ghost use Rattle.pm_step.specs.Asking.{asks_freely, none_responded};
 ghost use Rattle.pm_step.specs.Proposed.{event_by, IsActorLive};
@@ -16,7 +17,7 @@ use crate::entries::{any_responds, awaited, enter_in_draft, respond_to_access, r
 use crate::proposals::{Actor, Proposal, propose};
 use crate::replies::done;
 use pm_model::{Change, ChangeError, Entry, Event, Memory, Reply, Request};
-use pm_state::{State, keeps};
+use pm_state::State;
 use std::thread::Threads;
 
 /// What a step comes to.
@@ -28,12 +29,12 @@ pub enum Stepped {
     Answered(Reply),
 }
 
-// Makes the change in place, or refuses it. Nothing responds to it, no review is kept, and it keeps none.
+// Makes the change in place, or refuses it. Nothing responds to it, and it leaves the kept reviews.
 fn enter(state: &mut State, change: &Change, entry: Entry) -> Result<Reply, Memory>
-    requires none { state.old.graph.kept ≡ [] }
-    requires no_more { keeps change.now ≡ false }
+    requires leaves { LeavesReviews state.old.graph change.now }
     requires named { IsNamed state.old.graph change.now }
     requires asked { proposed (state_of state.old) entry.request ≡ entered (state_of state.old) None change.now }
+    requires judged { judged_by (state_of state.old) entry.request ≡ judged_for state.old.graph change.now }
     ensures ok { IfOk result (HasAnswered state.old state.new entry) }
     ensures err { OnErr result (state.new ≡ state.old) }
 {
@@ -57,15 +58,15 @@ fn go_on(state: &mut State, stepped: Stepped) -> Reply
     }
 }
 
-// The answer to a request that comes to this change, to which nothing responds: in place, where no review is kept before or
-// after it.
+// The answer to a request that comes to this change, to which nothing responds: in place, where it leaves the kept reviews.
 fn enter_alone(state: &mut State, change: &Change, entry: Entry) -> Result<Reply, Memory>
     requires named { IsNamed state.old.graph change.now }
     requires asked { proposed (state_of state.old) entry.request ≡ entered (state_of state.old) None change.now }
+    requires judged { judged_by (state_of state.old) entry.request ≡ judged_for state.old.graph change.now }
     ensures ok { IfOk result (HasAnswered state.old state.new entry) }
     ensures err { OnErr result (state.new ≡ state.old) }
 {
-    if state.graph().kept().is_empty() && !keeps(change) {
+    if state.leaves_reviews(change)? {
         return enter(state, change, entry);
     }
     state.share()?;
@@ -73,7 +74,7 @@ fn enter_alone(state: &mut State, change: &Change, entry: Entry) -> Result<Reply
     Ok(go_on(state, stepped))
 }
 
-// The answer to a request that comes to this change: in place, where nothing responds and no review is kept.
+// The answer to a request that comes to this change: in place, where nothing responds and it leaves the kept reviews.
 fn enter_by(
     state: &mut State,
     change: &Change,
@@ -83,6 +84,7 @@ fn enter_by(
     requires named { IsNamed state.old.graph change.now }
     requires by { IsActorLive state.old.graph by }
     requires asked { proposed (state_of state.old) entry.request ≡ entered (state_of state.old) (event_by state.old.graph by change.now) change.now }
+    requires judged { judged_by (state_of state.old) entry.request ≡ judged_entered (state_of state.old) (event_by state.old.graph by change.now) change.now }
     ensures ok { IfOk result (HasAnswered state.old state.new entry) }
     ensures err { OnErr result (state.new ≡ state.old) }
 {
@@ -101,6 +103,7 @@ fn enter_access(state: &mut State, event: &Event, entry: Entry) -> Result<Reply,
     requires live { IsEventLive (relation_in state.old.graph) event.now }
     requires some { nat_lt 0 (length (responders state.old.graph state.old.graph.obligations (Some event.now))) ≡ true }
     requires asked { proposed (state_of state.old) entry.request ≡ granted (state_of state.old) event.now }
+    requires judged { judged_by (state_of state.old) entry.request ≡ judged_granted (state_of state.old) event.now }
     ensures ok { IfOk result (HasAnswered state.old state.new entry) }
     ensures err { OnErr result (state.new ≡ state.old) }
 {
@@ -120,6 +123,7 @@ fn enter_access_of(
     requires live { IsEventLive (relation_in state.old.graph) event.now }
     requires some { nat_lt 0 (length (responders state.old.graph state.old.graph.obligations (Some event.now))) ≡ true }
     requires asked { proposed (state_of state.old) request.now ≡ granted (state_of state.old) event.now }
+    requires judged { judged_by (state_of state.old) request.now ≡ judged_granted (state_of state.old) event.now }
     ensures ok { IfOk result (HasAnswered state.old state.new (record { seat = seat; nth = nth; request = request.now })) }
     ensures err { OnErr result (state.new ≡ state.old) }
 {
@@ -137,6 +141,7 @@ fn grant(
 ) -> Result<Reply, Memory>
     requires live { IsEventLive (relation_in state.old.graph) event.now }
     requires asked { proposed (state_of state.old) request.now ≡ granted (state_of state.old) event.now }
+    requires judged { judged_by (state_of state.old) request.now ≡ judged_granted (state_of state.old) event.now }
     ensures ok { IfOk result (HasAnswered state.old state.new (record { seat = seat; nth = nth; request = request.now })) }
     ensures err { OnErr result (state.new ≡ state.old) }
     ensures free { none_responded (granted (state_of state.old) event.now).reply ≡ true → IsOk result }

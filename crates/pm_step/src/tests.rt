@@ -13,6 +13,7 @@ use std::process::Abort;
 use std::test::Fail;
 use std::thread::Threads;
 
+mod counting;
 mod responding;
 mod settling;
 

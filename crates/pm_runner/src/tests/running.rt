@@ -23,7 +23,9 @@ impl Acts for Noting {
 
     ghost history = { λ s. [] };
 
-    #[tactic(auto, using(crate::proofs::WorkedTurns::passed_by))]
+    ghost judged = { λ s. 0 };
+
+    #[tactic(auto, using(crate::proofs::WorkedTurns::passed_by, crate::proofs::WorkedTurns::none_judged))]
     fn act(&mut self, place: Place) -> Result<(), ActError> {
         if self.asked.push(place).is_err() {
             return Err(ActError::Memory);

@@ -1,6 +1,7 @@
 -- An action behind those that have made the graph.
 use Rattle.std.proofs.Common.{◌∙◌, ap, length, arith}
 use Rattle.std.proofs.lemmas.Result.{err_from_is_err_and}
+use Rattle.pm_runner.proofs.Counts.{act-counted}
 use Rattle.pm_runner.proofs.Steps.{act-turn, act-done, act-stops, stop-of}
 use Rattle.pm_runner.proofs.running.run_obligation.Goals as goal
 
@@ -24,4 +25,8 @@ loop-i-preserved g c = record {
   history = c.in_ok-act_at.ensures.history ∙ c.loop-i.invariant.history;
   made = act-done (g.A.Acts.occasion c.args.acts.now) c.args.obligation.now c.args.index c.loop-i.i (g.A.Acts.graph c.args.acts.now) (g.A.Acts.graph c.loop-i.acts)
       (g.A.Acts.graph c.act_at.new.acts) (omega (arith, ap length c.actions-actions.ensures.actions)) c.requires.due.stands c.loop-i.invariant.made (rw c.loop-i.invariant.same at c.in_ok-act_at.ensures.ok);
+  judged = act-counted (g.A.Acts.occasion c.args.acts.now) c.args.obligation.now c.args.index c.loop-i.i (g.A.Acts.graph c.args.acts.now) (g.A.Acts.graph c.loop-i.acts)
+      (g.A.Acts.judged c.args.acts.now) (g.A.Acts.judged c.loop-i.acts) (g.A.Acts.judged c.act_at.new.acts)
+      (omega (arith, ap length c.actions-actions.ensures.actions)) c.requires.due.stands c.loop-i.invariant.made c.loop-i.invariant.judged
+      (rw c.loop-i.invariant.same at c.in_ok-act_at.ensures.judged);
 }

@@ -1,6 +1,7 @@
--- The actions so far have made the graph.
+-- The actions so far have made the graph, and what is judged for them is counted.
 use Rattle.std.proofs.Common.{◌≡◌, ◌+◌, take, Ok}
-use Rattle.pm_runner.specs.Turns.{obliged}
+use Rattle.pm_affect.specs.Counting.{capped}
+use Rattle.pm_runner.specs.Turns.{judged_obliged, obliged}
 use Rattle.pm_runner.proofs.running.run_obligation.Given as goal
 
 abbrev pub invariant-loop-i : goal.invariant-loop-i
@@ -11,4 +12,6 @@ invariant-loop-i g l =
       history : g.A.Acts.history l.acts ≡ g.A.Acts.history l.fn.acts;
       made : obliged occasion l.obligation (l.index + 1) (g.A.Acts.graph l.fn.acts) (take l.i l.obligation.response)
           ≡ Ok (g.A.Acts.graph l.acts);
+      judged : capped (g.A.Acts.judged l.acts)
+          ≡ capped (g.A.Acts.judged l.fn.acts + judged_obliged occasion l.obligation (l.index + 1) (g.A.Acts.graph l.fn.acts) (take l.i l.obligation.response));
     }

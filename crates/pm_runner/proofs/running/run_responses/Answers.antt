@@ -1,6 +1,7 @@
 -- A response behind those that have made the graph.
 use Rattle.std.proofs.Common.{◌∙◌}
 use Rattle.std.proofs.lemmas.Result.{err_from_is_err_and}
+use Rattle.pm_runner.proofs.Counts.{response-counted}
 use Rattle.pm_runner.proofs.Places.{stands_at}
 use Rattle.pm_runner.proofs.Steps.{response-done, response-stops, stop-of}
 use Rattle.pm_runner.proofs.running.run_responses.Goals as goal
@@ -30,4 +31,9 @@ loop-i-preserved g c = record {
       (g.A.Acts.graph c.loop-i.acts) (g.A.Acts.graph c.run_obligation.new.acts) c.at.result.now c.loop-i.invariant.same
       (stands_at _ _ _ c.loop-i.i c.at-place.result.now c.at.result.now c.requires.places c.at-place.ensures c.at.ensures)
       c.loop-i.invariant.made c.in_ok-run_obligation.ensures.ok;
+  judged = response-counted (g.A.Acts.occasion c.args.acts.now) (g.A.Acts.occasion c.loop-i.acts) c.loop-i.i (g.A.Acts.graph c.args.acts.now)
+      (g.A.Acts.graph c.loop-i.acts) c.at.result.now (g.A.Acts.judged c.args.acts.now) (g.A.Acts.judged c.loop-i.acts)
+      (g.A.Acts.judged c.run_obligation.new.acts) c.loop-i.invariant.same
+      (stands_at _ _ _ c.loop-i.i c.at-place.result.now c.at.result.now c.requires.places c.at-place.ensures c.at.ensures)
+      c.loop-i.invariant.made c.loop-i.invariant.judged c.in_ok-run_obligation.ensures.judged;
 }

@@ -1,6 +1,8 @@
 -- What lies outside the region is right already.
-use Rattle.std.proofs.Common.{arith}
+use Rattle.std.proofs.Common.{refl, arith}
+use Rattle.pm_affect.specs.Counting.{judged_for}
 use Rattle.pm_state.specs.Containing.{relation_in}
+use Rattle.pm_state.proofs.Charged.{charged-none, due-judged}
 use Rattle.pm_state.proofs.Regions.{elements-asked, users-asked, few-pairs}
 use Rattle.pm_state.proofs.Repaired.{due-same, are-lists, are-live, anew-listed}
 use Rattle.pm_state.proofs.repairs.judge_again.Goals as goal
@@ -42,8 +44,13 @@ update-requires-clause-lists c =
     (c.lists_right.ensures due.before H due.change due.formed due.named due.led L (are-lists L c.kept.ensures due.before due.listed)
     (are-live L c.kept.ensures due.before H c.formed.ensures same due.listed))
 
-pub returns : goal.returns
-returns c =
+pub returns-then-not-are_touched-clause-charged : goal.returns-then-not-are_touched-clause-charged
+returns-then-not-are_touched-clause-charged c = λ due.
+    let L = c.args.lists.now in
+    charged-none L L (judged_for due.before due.change) c.kept.ensures.few refl (c.are_touched.ensures.judged c.if-not-are_touched.true due)
+
+pub returns-clause-listed : goal.returns-clause-listed
+returns-clause-listed c =
     let L = c.args.lists.now in
     let H = c.args.graph.now in
     let due = c.requires in
@@ -51,3 +58,8 @@ returns c =
     (rw (c.new-judge.ensures.graph, c.in_ok-elements.ensures) at c.in_ok-update.ensures.caps)
     (rw (c.new-judge.ensures.graph, c.in_ok-users.ensures) at c.in_ok-update.ensures.entries)
     due.before (due-same L H c.args.region.now due) due.listed
+
+pub returns-clause-charged : goal.returns-clause-charged
+returns-clause-charged c = λ due.
+    rw (c.reach-reach.ensures.assigned, c.in_ok-elements.ensures, c.in_ok-users.ensures, ← due-judged c.args.lists.now c.args.graph.now c.args.region.now due)
+    at c.in_ok-update.ensures.charged

@@ -1,9 +1,34 @@
 -- Lists of well formed graphs are by rising number, and of live elements.
+use Rattle.pm_step.proofs.Settled.{names-alike}
 use Rattle.pm_step.proofs.settling.changes_in.Goals as goal
+
+pub changes_of_rights-requires-clause-old_rises : goal.changes_of_rights-requires-clause-old_rises
+changes_of_rights-requires-clause-old_rises c =
+    rw (c.list-old.ensures) (c.lists_rise.ensures.rising c.args.before.now.graph c.args.of.now (rw (c.graph.ensures) at c.formed.ensures))
+
+pub changes_of_rights-requires-clause-new_rises : goal.changes_of_rights-requires-clause-new_rises
+changes_of_rights-requires-clause-new_rises c =
+    rw (c.in_ok-new.ensures) (c.lists_rise.ensures.rising c.args.draft.now.graph c.args.of.now (rw (c.graph-2.ensures) at c.formed-2.ensures))
+
+pub changes_of_rights-requires-clause-old_named : goal.changes_of_rights-requires-clause-old_named
+changes_of_rights-requires-clause-old_named c =
+    rw (c.list-old.ensures, c.graph-was.ensures)
+    (c.lists_rise.ensures.live c.args.before.now.graph c.args.of.now (rw (c.graph.ensures) at c.formed.ensures))
+
+pub changes_of_rights-requires-clause-new_named : goal.changes_of_rights-requires-clause-new_named
+changes_of_rights-requires-clause-new_named c =
+    rw (c.in_ok-new.ensures, c.graph-is.ensures)
+    (c.lists_rise.ensures.live c.args.draft.now.graph c.args.of.now (rw (c.graph-2.ensures) at c.formed-2.ensures))
+
+pub changes_of_rights-requires-clause-names : goal.changes_of_rights-requires-clause-names
+changes_of_rights-requires-clause-names c =
+    rw (c.list-old.ensures, c.graph-was.ensures, c.graph-is.ensures)
+    (names-alike c.args.before.now c.args.draft.now _ c.replayed.ensures c.requires.history (c.keeps_names.ensures c.if-keeps_names.true)
+    (c.lists_rise.ensures.live c.args.before.now.graph c.args.of.now (rw (c.graph.ensures) at c.formed.ensures)))
 
 pub changes-requires-clause-old_rises : goal.changes-requires-clause-old_rises
 changes-requires-clause-old_rises c =
-    rw (c.list-2.ensures) (c.lists_rise.ensures.rising c.args.before.now.graph c.args.of.now (rw (c.graph.ensures) at c.formed.ensures))
+    rw (c.list-old.ensures) (c.lists_rise.ensures.rising c.args.before.now.graph c.args.of.now (rw (c.graph.ensures) at c.formed.ensures))
 
 pub changes-requires-clause-new_rises : goal.changes-requires-clause-new_rises
 changes-requires-clause-new_rises c =
@@ -11,10 +36,10 @@ changes-requires-clause-new_rises c =
 
 pub changes-requires-clause-old_named : goal.changes-requires-clause-old_named
 changes-requires-clause-old_named c =
-    rw (c.list-2.ensures, c.graph-3.ensures)
+    rw (c.list-old.ensures, c.graph-was.ensures)
     (c.lists_rise.ensures.live c.args.before.now.graph c.args.of.now (rw (c.graph.ensures) at c.formed.ensures))
 
 pub changes-requires-clause-new_named : goal.changes-requires-clause-new_named
 changes-requires-clause-new_named c =
-    rw (c.in_ok-new.ensures, c.graph-4.ensures)
+    rw (c.in_ok-new.ensures, c.graph-is.ensures)
     (c.lists_rise.ensures.live c.args.draft.now.graph c.args.of.now (rw (c.graph-2.ensures) at c.formed-2.ensures))

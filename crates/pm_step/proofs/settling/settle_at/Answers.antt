@@ -15,7 +15,7 @@ changes_in-requires-clause-before c =
 
 pub changes_in-requires-clause-after : goal.changes_in-requires-clause-after
 changes_in-requires-clause-after c =
-    kept-here c.args.draft.now.graph c.args.place c.in-Some.number c.in-Some.of c.requires
+    kept-here c.args.draft.now.graph c.args.place c.in-Some.number c.in-Some.of c.requires.place
     (rw (c.kept.ensures, c.graph.ensures) at c.in-Some.ensures)
 
 pub returns-else-len-gt0-clause-ok : goal.returns-else-len-gt0-clause-ok

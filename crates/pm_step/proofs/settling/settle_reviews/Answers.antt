@@ -3,8 +3,8 @@ use Rattle.pm_step.specs.Settling.{reviews_settled}
 use Rattle.pm_step.proofs.Settled.{first-within, settled-more, settled-all}
 use Rattle.pm_step.proofs.settling.settle_reviews.Goals as goal
 
-pub settle_at-requires : goal.settle_at-requires
-settle_at-requires c =
+pub settle_at-requires-clause-place : goal.settle_at-requires-clause-place
+settle_at-requires-clause-place c =
     first-within c.args.before.now.graph c.args.draft.now.graph c.args.version c.loop-place.draft.graph c.loop-place.place c.loop-place.invariant.graph
     (rw (c.len-place-end.ensures, c.kept.ensures, c.graph.ensures) at c.loop-place-test.true)
 
@@ -15,6 +15,7 @@ loop-place-preserved c = record {
       c.loop-place.invariant.graph (rw (c.len-place-end.ensures, c.kept.ensures, c.graph.ensures) at c.loop-place-test.true)
       c.in_ok-settle_at.ensures.ok;
   history = c.in_ok-settle_at.ensures.history ∙ c.loop-place.invariant.history;
+  asked = c.in_ok-settle_at.ensures.asked ∙ c.loop-place.invariant.asked;
 }
 
 pub returns-clause-ok : goal.returns-clause-ok

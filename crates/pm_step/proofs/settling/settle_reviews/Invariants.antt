@@ -7,4 +7,5 @@ abbrev pub invariant-loop-place : goal.invariant-loop-place
 invariant-loop-place l = record {
   graph : l.draft.graph ≡ settled_first l.before.graph l.fn.draft.graph l.version l.place;
   history : l.draft.history ≡ l.fn.draft.history;
+  asked : l.draft.asked ≡ l.fn.draft.asked;
 }

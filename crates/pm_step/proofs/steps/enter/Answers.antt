@@ -1,4 +1,4 @@
-use Rattle.std.proofs.Common.{subst}
+use Rattle.std.proofs.Common.{◌+◌, length, subst}
 use Rattle.pm_model.specs.Effect.{IsCause}
 use Rattle.pm_model.specs.Answer.{refusal_in}
 use Rattle.pm_model.specs.History.{state_of}
@@ -7,8 +7,8 @@ use Rattle.pm_step.proofs.steps.enter.Goals as goal
 
 pub returns-in-Ok-clause-ok : goal.returns-in-Ok-clause-ok
 returns-in-Ok-clause-ok c =
-    made-answered c.args.state.now c.enter.new.self c.args.entry c.args.change.now c.done.result c.requires.asked c.requires.none
-    c.in-Ok.ensures.ok c.in-Ok.ensures.room c.in-Ok.ensures.history (rw (c.in-Ok.ensures.made) at c.done.ensures)
+    made-answered c.args.state.now c.enter.new.self c.args.entry c.args.change.now c.done.result c.requires.asked
+    (c.requires.leaves.settled c.enter.new.self.graph c.in-Ok.ensures.ok (length c.args.state.now.history + 1)) c.in-Ok.ensures.ok c.in-Ok.ensures.room c.in-Ok.ensures.history (rw (c.in-Ok.ensures.made) at c.done.ensures)
 
 pub returns-in-Err-Refused-clause-ok : goal.returns-in-Err-Refused-clause-ok
 returns-in-Err-Refused-clause-ok c =

@@ -9,4 +9,5 @@ invariant_of-result c =
       replayed = record { legal = tt; content = refl };
       limit = refl;
       listed = empty-listed opening.graph refl;
+      asked = refl;
     })

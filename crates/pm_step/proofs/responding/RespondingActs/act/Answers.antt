@@ -3,14 +3,14 @@ use Rattle.std.proofs.Common.{refl, sym, subst}
 use Rattle.pm_model.specs.Formed.{IsWellFormed}
 use Rattle.pm_runner.specs.Turns.{IsTurn}
 use Rattle.pm_step.specs.Responders.{Underway}
-use Rattle.pm_step.proofs.Acting.{obligation-there, action-there, author-is-user, acted-is, responders-stay-either, place-below}
+use Rattle.pm_step.proofs.Acting.{obligation-there, action-there, author-is-user, acted-is, acted-counted, responders-stay-either, place-below}
 use Rattle.pm_step.proofs.responding.RespondingActs.act.Goals as goal
 
 pub at-at-requires : goal.at-at-requires
 at-at-requires c =
     let s = c.self.inside in
     obligation-there s.names s.version s.obligations.now.items s.places.now s.draft.graph c.args.place c.self.invariant
-    (subst (λ (u : Underway). IsTurn u.occasion u.machine.graph c.args.place) (sym c.self.view_is) c.requires)
+    (subst (λ (u : Underway). IsTurn u.occasion u.draft.graph c.args.place) (sym c.self.view_is) c.requires)
 
 pub at-obligation-requires : goal.at-obligation-requires
 at-obligation-requires c = place-below _ c.self.inside.places.now _ c.at-at.result.now c.self.invariant.below c.at-at.ensures
@@ -21,7 +21,7 @@ at-action-requires c =
     rw c.actions-actions.ensures.actions
     (action-there s.names s.version s.obligations.now.items s.places.now s.draft.graph c.args.place c.at-at.result.now c.at-obligation.result.now
     c.at-at.ensures c.at-obligation.ensures c.self.invariant
-    (subst (λ (u : Underway). IsTurn u.occasion u.machine.graph c.args.place) (sym c.self.view_is) c.requires))
+    (subst (λ (u : Underway). IsTurn u.occasion u.draft.graph c.args.place) (sym c.self.view_is) c.requires))
 
 pub act_by-requires : goal.act_by-requires
 act_by-requires c =
@@ -38,7 +38,7 @@ invariant_of-self c =
     c.at-at.ensures c.at-obligation.ensures c.at-action.result.now c.self.invariant asked in
     responders-stay-either s.names s.version obligations s.places.now s.draft.graph c.args.place c.act_by.result s.draft c.act_by.new.draft refl
     (rw done c.act_by.ensures.ok) (rw done c.act_by.ensures.err) c.self.invariant
-    (subst (λ (u : Underway). IsTurn u.occasion u.machine.graph c.args.place) (sym c.self.view_is) c.requires)
+    (subst (λ (u : Underway). IsTurn u.occasion u.draft.graph c.args.place) (sym c.self.view_is) c.requires)
 
 pub returns-clause-ok : goal.returns-clause-ok
 returns-clause-ok c =
@@ -55,3 +55,11 @@ returns-clause-refused c =
     let done = acted-is s.names s.version s.obligations.now.items s.places.now s.draft.graph c.args.place c.at-at.result.now c.at-obligation.result.now
     c.at-at.ensures c.at-obligation.ensures c.at-action.result.now c.self.invariant asked in
     rw (← c.self.view_is, done) c.act_by.ensures.refused
+
+pub returns-clause-judged : goal.returns-clause-judged
+returns-clause-judged c =
+    let s = c.self.inside in
+    let asked = rw c.actions-actions.ensures.actions at c.at-action.ensures in
+    let counted = acted-counted s.names s.version s.obligations.now.items s.places.now s.draft.graph c.args.place c.at-at.result.now c.at-obligation.result.now
+    c.at-at.ensures c.at-obligation.ensures c.at-action.result.now c.self.invariant asked in
+    rw (← c.self.view_is, counted) c.act_by.ensures.judged
