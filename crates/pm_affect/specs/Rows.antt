@@ -1,8 +1,12 @@
 -- The region of a change row by row: which elements lie in it with one user. The project's own.
-use Rattle.std.specs.Prelude.{ℕ, Bool, true, false, ◌==◌, if◌then◌else◌, List, map, filter, None}
+use Rattle.std.specs.Prelude.{◌≡◌, ◌/◌, ℕ, Bool, true, false, ◌==◌, if◌then◌else◌, List, map, filter, Option, None, Some}
+use Rattle.pm_model.specs.Containment.{Relation}
 use Rattle.pm_model.specs.Decision.{range_by, applies_by}
 use Rattle.pm_model.specs.declared.prohibitions.Subject.{Subject}
 use Rattle.pm_model.specs.declared.prohibitions.Subject.TheVariants.{Process}
+use Rattle.pm_decide.specs.Live.{IsLive}
+use Rattle.pm_affect.specs.declared.touching.Side.{Side}
+use Rattle.pm_affect.specs.declared.touching.Side.TheVariants.{User, Element}
 use Rattle.pm_affect.specs.declared.region.Region.{Region}
 use Rattle.pm_affect.specs.declared.region.Region.TheVariants.{Nothing, One, Under, Between, Barred}
 use Rattle.pm_affect.specs.declared.region.Row.{Row}
@@ -47,6 +51,15 @@ abbrev pub is_wide : Region → Bool
 is_wide (One x) = true
 is_wide (Under x) = true
 is_wide _ = false
+
+-- on which side of a pair an element stands, and whether it is near there, or has a row of those that are
+abbrev pub near_on : Side → (ℕ → ℕ → Bool) → Region → ℕ → Bool
+near_on User below region u = has_near below region u
+near_on Element below region e = is_near below region e
+
+-- no live number of the 64 that are passed by passes the test
+abbrev pub ArePassed : (ℕ → Bool) → Relation → Option ℕ → Type 0
+ArePassed test relation passed = (k x : ℕ) → passed ≡ Some k → IsLive relation x → x / 64 ≡ k → test x ≡ false
 
 -- the user with each of the elements
 abbrev pub with_each : ℕ → List ℕ → List (ℕ × ℕ)

@@ -1,12 +1,13 @@
 //! The pairs of a user and an element whose rights a change can change.
 
-ghost use Rattle.std.specs.Prelude.{◌≡◌, if◌then◌else◌, IfOk};
+ghost use Rattle.std.specs.Prelude.{◌≡◌, ◌/◌, ℕ, None, false, if◌then◌else◌, IfOk};
 ghost use Rattle.std.specs.Option.{option_copied};
+ghost use Rattle.pm_model.specs.Decision.{applies_by};
 ghost use Rattle.pm_decide.specs.Live.{IsLive};
 ghost use Rattle.pm_affect.specs.Affected.{is_in, region_by};
 ghost use Rattle.pm_affect.specs.Live.{RegionLive};
 ghost use Rattle.pm_affect.specs.declared.region.Row.{Row};
-ghost use Rattle.pm_affect.specs.Rows.{is_near, is_near_row, is_nothing, is_process, is_wide, row_by};
+ghost use Rattle.pm_affect.specs.Rows.{has_near, is_near, is_near_row, is_nothing, is_process, is_wide, row_by};
 
 use pm_decide::{applies, in_range};
 use pm_model::{Change, ElementId, Memory, Prohibition, Reach, Subject};
@@ -75,6 +76,18 @@ fn is_process(subject: Subject<ElementId, u32>) -> bool
     match subject {
         Subject::Process(_) => true,
         _ => false,
+    }
+}
+
+/// Whether a prohibition of this subject may apply to some user with a number from 64 k on, of 64 of them.
+fn may_apply<R: Reach>(subject: Subject<ElementId, u32>, k: u32, reach: &mut R) -> bool
+    ensures none { result ≡ false → (u : ℕ) → IsLive (R.relation reach.old) u → u / 64 ≡ k → applies_by (R.relation reach.old).below u None subject ≡ false }
+    ensures same { R.relation reach.new ≡ R.relation reach.old }
+{
+    match subject {
+        Subject::User(x) => x.number() / 64 == k,
+        Subject::Ua(x) => reach.may_hold(x, k),
+        Subject::Process(_) => false,
     }
 }
 
@@ -176,6 +189,30 @@ impl Region {
             Region::Under(x) => reach.contains(element, *x),
             Region::Between(_, at) => reach.contains(element, *at),
             Region::Barred(bar) => in_range(reach, bar, element),
+        }
+    }
+
+    /// Whether some user with a number from 64 k on, of 64 of them, may have a row of those that are near: never no where one
+    /// has.
+    pub(crate) fn may_have_near<R: Reach>(&self, k: u32, reach: &mut R) -> bool
+        ensures none { result ≡ false → (u : ℕ) → IsLive (R.relation reach.old) u → u / 64 ≡ k → has_near (R.relation reach.old).below self.now u ≡ false }
+        ensures same { R.relation reach.new ≡ R.relation reach.old }
+    {
+        match self {
+            Region::Between(ua, _) => reach.may_hold(*ua, k),
+            Region::Barred(bar) => may_apply(bar.subject, k, reach),
+            _ => true,
+        }
+    }
+
+    /// Whether some element with a number from 64 k on, of 64 of them, may be near: never no where one is.
+    pub(crate) fn may_be_near<R: Reach>(&self, k: u32, reach: &mut R) -> bool
+        ensures none { result ≡ false → (e : ℕ) → IsLive (R.relation reach.old) e → e / 64 ≡ k → is_near (R.relation reach.old).below self.now e ≡ false }
+        ensures same { R.relation reach.new ≡ R.relation reach.old }
+    {
+        match self {
+            Region::Between(_, at) => reach.may_hold(*at, k),
+            _ => true,
         }
     }
 }

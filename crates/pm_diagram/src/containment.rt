@@ -34,4 +34,8 @@ impl<'a> Reach for Containment<'a> {
     fn above(&mut self, x: ElementId, k: u32) -> u64 {
         self.diagram.above(x, k)
     }
+
+    fn may_hold(&mut self, y: ElementId, k: u32) -> bool {
+        self.diagram.may_hold(y, k)
+    }
 }

@@ -2,7 +2,7 @@
 //! changed, which may still find no memory for itself; and then the rows follow, which can't fail. So
 //! all is done, or nothing.
 
-ghost use Rattle.std.specs.Prelude.{◌≡◌, ◌≢◌, ℕ, ◌<◌, ◌==◌, ◌*◌, ◌+◌, None, OnOk, OnErr, IfOk, IfErr, IfSome, is_some, filter, not};
+ghost use Rattle.std.specs.Prelude.{◌≡◌, ◌≢◌, ℕ, ◌<◌, ◌==◌, ◌*◌, ◌+◌, ◌/◌, false, None, OnOk, OnErr, IfOk, IfErr, IfSome, is_some, filter, not};
 ghost use Rattle.std.specs.Int.{bit_at};
 ghost use Rattle.pm_model.specs.Containment.{contained};
 ghost use Rattle.pm_model.specs.Effect.{max_elements, is_pair, is_from, placed, with_pair, with_assignment, create_checks, assign_checks, deassign_checks, IsCause};
@@ -102,6 +102,14 @@ impl Diagram {
         ensures { (i : ℕ) → i < 64 → (bit_at result i == 1) ≡ contained self.now.assigned x (64 * k + i) }
     {
         self.rows.above(x, k)
+    }
+
+    /// Whether some of the live elements with numbers from 64 k on, 64 of them, may be contained in y. It may say yes where none
+    /// is, and never no where one is.
+    pub(crate) fn may_hold(&self, y: ElementId, k: u32) -> bool
+        ensures { result ≡ false → (x : ℕ) → IsLive self.now.elements x → x / 64 ≡ k → contained self.now.assigned x y ≡ false }
+    {
+        self.rows.may_hold(y, k)
     }
 
     /// Whether an element could be made in a container, or without one: `BadKinds`, `NameTaken`,

@@ -9,7 +9,7 @@ ghost use Rattle.pm_elements.specs.Checks.{least_from};
 ghost use Rattle.pm_elements.specs.Slots.{slot_at, shown, parents_of, children_of};
 
 use pm_model::{ElementId, ItemList, Kind, Memory, Name};
-use pm_pages::{CopyOf, PageList};
+use pm_pages::{CopyOf, LeafList};
 use std::alloc::Global;
 
 /// An element, what it is assigned to, and how many are assigned to it.
@@ -21,11 +21,8 @@ pub(crate) struct Slot {
     pub children: u32,
 }
 
-/// The slots, in pages that copies share.
-pub(crate) type Slots = PageList<Option<Slot>>;
-
-/// How many slots stand in a page.
-const ROOM: usize = 64;
+/// The slots, in leaves that copies share.
+pub(crate) type Slots = LeafList<Option<Slot>>;
 
 impl CopyOf for Slot {
     fn copied(&self) -> Result<Slot, Memory> {
@@ -43,7 +40,7 @@ pub(crate) fn no_slots(alloc: Global) -> Slots
     ensures items { result.items ≡ [] }
     ensures alone { result.alone ≡ true }
 {
-    PageList::new(alloc, ROOM)
+    LeafList::new(alloc)
 }
 
 /// Whether the slot of a number is taken.

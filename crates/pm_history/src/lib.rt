@@ -1,4 +1,4 @@
-//! The history: the accepted requests, in order. Copies share the entries, and whole pages of them.
+//! The history: the accepted requests, in order. Copies share the entries, and whole leaves of them.
 #![tactic(auto)]
 
 ghost use Rattle.std.specs.Prelude.{◌≡◌, ◌≤◌, ◌<◌, [], ◌∷◌, ◌++◌, OnOk, OnErr, IfErr, IfOk, length, slice_get, take, ◌+◌, ◌-◌};
@@ -9,7 +9,7 @@ mod shared;
 
 use crate::shared::SharedEntry;
 use pm_model::{Entry, Memory};
-use pm_pages::PageList;
+use pm_pages::LeafList;
 use std::alloc::Global;
 use std::marker::Model;
 use thiserror::Error;
@@ -17,10 +17,7 @@ use thiserror::Error;
 #[cfg(test)]
 mod tests;
 
-/// How many entries stand in a page.
-const ROOM: usize = 256;
-
-/// After how many entries the pages are shared in any case.
+/// After how many entries the leaves are shared in any case.
 const SHARED: usize = 1024;
 
 /// Why an entry was not put into the history. The history is as before, and the entry is dropped.
@@ -38,7 +35,7 @@ pub enum HistoryError {
 #[derive(Drop)]
 pub struct History {
     /// Behind the first `count` there may be entries that were taken back.
-    entries: PageList<SharedEntry>,
+    entries: LeafList<SharedEntry>,
     count: usize,
     limit: u64,
 }
@@ -54,7 +51,7 @@ impl Model for History {
 }
 
 /// Puts an entry behind the first ones, in the place of one that was taken back if there is one.
-fn put(entries: &mut PageList<SharedEntry>, count: usize, entry: SharedEntry) -> Result<(), Memory>
+fn put(entries: &mut LeafList<SharedEntry>, count: usize, entry: SharedEntry) -> Result<(), Memory>
     requires { count ≤ length entries.old.items }
     ensures ok { OnOk result (take (count + 1) entries.new.items ≡ take count entries.old.items ++ entry ∷ []) }
     ensures held { OnOk result (count < length entries.new.items) }
@@ -68,8 +65,8 @@ fn put(entries: &mut PageList<SharedEntry>, count: usize, entry: SharedEntry) ->
     entries.push(entry)
 }
 
-/// Lets copies share the pages after each so many entries, when all pages are full.
-fn share_full(entries: &mut PageList<SharedEntry>, count: usize) -> Result<(), Memory>
+/// Lets copies share the leaves after each so many entries, when all leaves are full.
+fn share_full(entries: &mut LeafList<SharedEntry>, count: usize) -> Result<(), Memory>
     ensures { entries.new.items ≡ entries.old.items }
 {
     if count % SHARED == 0 {
@@ -79,7 +76,7 @@ fn share_full(entries: &mut PageList<SharedEntry>, count: usize) -> Result<(), M
 }
 
 /// Makes an entry that histories share, and puts it behind the first ones.
-fn put_new(entries: &mut PageList<SharedEntry>, count: usize, entry: Entry) -> Result<(), Memory>
+fn put_new(entries: &mut LeafList<SharedEntry>, count: usize, entry: Entry) -> Result<(), Memory>
     requires { count ≤ length entries.old.items }
     ensures ok { OnOk result (take (count + 1) entries.new.items ≡ take count entries.old.items ++ entry ∷ []) }
     ensures held { OnOk result (count < length entries.new.items) }
@@ -98,7 +95,7 @@ impl History {
         ensures { result ≡ record { entries = []; limit = limit } }
     {
         History {
-            entries: PageList::new(alloc, ROOM),
+            entries: LeafList::new(alloc),
             count: 0,
             limit,
         }
@@ -133,8 +130,8 @@ impl History {
 
     /// Puts an entry at the end. `Full` exactly where there are as many entries as the limit says; the
     /// only other error is `Memory`. It takes memory for the entry, now and then for more places, and
-    /// for up to 256 places where copies share the last page. Of each 1,024 entries the pages are shared
-    /// from the next push on.
+    /// for up to 16 places and a page of 32 leaves where copies share the last leaf. Of each 1,024 entries
+    /// the leaves are shared from the next push on.
     pub fn push(&mut self, entry: Entry) -> Result<(), HistoryError>
         ensures room { OnOk result (length self.old.entries < self.old.limit) }
         ensures ok { OnOk result (self.new ≡ record self.old { entries = self.old.entries ++ entry ∷ [] }) }
@@ -162,18 +159,18 @@ impl History {
         self.count -= 1;
     }
 
-    /// Lets copies share all pages, so that a copy costs 40 bytes for each 256 entries. It takes
-    /// memory for each page that no copy shares. On Memory some pages may be shared.
+    /// Lets copies share all leaves, so that a copy costs 40 bytes for each 512 entries. It takes
+    /// memory for each leaf that no copy shares. On Memory some leaves may be shared.
     pub fn share(&mut self) -> Result<(), Memory>
         ensures { self.new ≡ self.old }
     {
         self.entries.share()
     }
 
-    /// The same history once more, with the same limit. It takes memory for the pages' places, and for
-    /// those of the last entries where no `share` came before, of 8 bytes each: but for the last 1,024 at
-    /// most, pages are shared in any case. `Memory` comes where there is none, or where an entry or a page
-    /// has as many owners as can be counted.
+    /// The same history once more, with the same limit. It takes memory for the places of pages of leaves,
+    /// and for those of the last entries where no `share` came before, of 8 bytes each: but for the last
+    /// 1,024 at most, leaves are shared in any case. `Memory` comes where there is none, or where an entry
+    /// or a leaf has as many owners as can be counted.
     pub fn copy(&self) -> Result<History, Memory>
         ensures { IfOk result (λ same. same ≡ self.now) }
     {

@@ -132,7 +132,16 @@ fn history_of(alloc: Global, count: u64) -> Result<History, HistoryError> {
 
 #[test]
 fn copies_go_apart_across_the_end_of_a_page(rt: HostRuntime) -> Result<(), Fail> {
-    for count in [255, 256, 257, 1023, 1024, 1025] {
+    for (before, last, count) in [
+        (253, 254, 255),
+        (254, 255, 256),
+        (255, 256, 257),
+        (510, 511, 512),
+        (511, 512, 513),
+        (1021, 1022, 1023),
+        (1022, 1023, 1024),
+        (1023, 1024, 1025),
+    ] {
         let mut history = history_of(rt.alloc(), count)?;
         history.share()?;
         let mut copy = history.copy()?;
@@ -146,8 +155,8 @@ fn copies_go_apart_across_the_end_of_a_page(rt: HostRuntime) -> Result<(), Fail>
         assert_eq!(rt; copy.len(), count + 1);
         for (i, one, other) in [
             (0, Some((4, 0)), Some((4, 0))),
-            (count - 2, Some((4, count - 2)), Some((4, count - 2))),
-            (count - 1, Some((4, count - 1)), Some((5, 1))),
+            (before, Some((4, before)), Some((4, before))),
+            (last, Some((4, last)), Some((5, 1))),
             (count, Some((3, 1)), Some((5, 2))),
             (count + 1, None, None),
         ] {

@@ -1,6 +1,6 @@
 //! What a decision asks of a state, as traits.
 
-ghost use Rattle.std.specs.Prelude.{◌≡◌, ℕ, Bool, true, ◌<◌, ◌≤◌, ◌+◌, ◌*◌, ◌^◌, ◌==◌, List, [], ◌∷◌, length, slice_get, take, drop, filter, Some, IsTrue, All};
+ghost use Rattle.std.specs.Prelude.{◌≡◌, ℕ, Bool, true, false, ◌<◌, ◌≤◌, ◌+◌, ◌*◌, ◌/◌, ◌^◌, ◌==◌, List, [], ◌∷◌, length, slice_get, take, drop, filter, Some, IsTrue, All};
 ghost use Rattle.std.specs.Int.{bit_at};
 ghost use Rattle.std.specs.List.{list_any};
 ghost use Rattle.pm_model.specs.Containment.{Relation, containers};
@@ -31,6 +31,16 @@ pub trait Reach {
         requires x_live { IsTrue ((relation self.old).live x) }
         ensures word { (i : ℕ) → i < 64 → (bit_at result i == 1) ≡ (relation self.old).below x (64 * k + i) }
         ensures same { relation self.new ≡ relation self.old };
+
+    /// Whether some of the numbers from 64 k on, 64 of them, may be contained in y. It may say yes where none is, and never no
+    /// where one is, so whoever asks for many of them can pass by 64 at a time.
+    fn may_hold(&mut self, y: ElementId, k: u32) -> bool
+        ensures none { result ≡ false → (x : ℕ) → IsTrue ((relation self.old).live x) → x / 64 ≡ k → (relation self.old).below x y ≡ false }
+        ensures same { relation self.new ≡ relation self.old }
+    {
+        let _ = (y, k);
+        true
+    }
 }
 
 /// What each element is assigned to.

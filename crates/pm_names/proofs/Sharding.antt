@@ -247,6 +247,6 @@ list-read (ds ∷ lists) zero es is = cc
 list-read (ds ∷ lists) (suc k) es is = list-read lists k es is
 
 -- the lists stay as they are to be, whether a call changed one or not
-pub fits-after : {A E : Type 0} (r : Result A E) (new old : Row Entry) (changed : List (List Entry)) → OnOk r (new.lists ≡ changed) → OnErr r (new ≡ old) → Fits 0 changed → Fits 0 old.lists → Fits 0 new.lists
-fits-after (Ok x) new old changed ok err after before = let P : List (List Entry) → Type 0 = λ l. Fits 0 l in subst P (sym ok) after
-fits-after (Err e) new old changed ok err after before = let P : Row Entry → Type 0 = λ p. Fits 0 p.lists in subst P (sym err) before
+pub fits-after : {A E : Type 0} (r : Result A E) (new old changed : List (List Entry)) → OnOk r (new ≡ changed) → OnErr r (new ≡ old) → Fits 0 changed → Fits 0 old → Fits 0 new
+fits-after (Ok x) new old changed ok err after before = subst (Fits 0) (sym ok) after
+fits-after (Err e) new old changed ok err after before = subst (Fits 0) (sym err) before

@@ -1,5 +1,5 @@
 pub mod Changed
-pub mod InRow
+pub mod Leaves
 pub mod Owning
 pub mod Passing
 pub mod Runs

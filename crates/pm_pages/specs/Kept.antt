@@ -1,7 +1,10 @@
 -- How a list is kept.
 use Rattle.std.specs.Prelude.{◌≡◌, true, length, map}
+use Rattle.std.specs.List.{list_all}
 use Rattle.pm_pages.specs.declared.list.PageList.TheInside.{Inside}
 use Rattle.pm_pages.specs.declared.list_row.ListRow.TheInside as row
+use Rattle.pm_pages.specs.declared.leaf_list.LeafList.TheInside as leaves
+use Rattle.pm_pages.specs.Leaves.{AreFull, all_in, both_own, held, is_own_leaf, marks_in}
 use Rattle.pm_pages.specs.Paged.{Paged, Row}
 use Rattle.pm_pages.specs.Listed.{listed, marks, all_own, starts_from, items_of}
 
@@ -15,7 +18,14 @@ module _ {T : Type 0} where
     pub alone : a.alone ≡ true → all_own a.pages.items ≡ true
 
   abbrev pub row_of : row.Inside T → Row T
-  row_of a = record { lists = map items_of a.pages.items; alone = a.alone }
+  row_of a = record { lists = map held a.leaves.items; own = both_own a.leaves.items a.leaves.own; alone = a.alone }
 
   abbrev pub IsRowKept : row.Inside T → Type 0
-  IsRowKept a = a.alone ≡ true → all_own a.pages.items ≡ true
+  IsRowKept a = a.alone ≡ true → (a.leaves.alone ≡ true) × (list_all is_own_leaf a.leaves.items ≡ true)
+
+  abbrev pub leaves_of : leaves.Inside T → Paged T
+  leaves_of a = record { items = all_in a.row.lists; own = marks_in a.row.lists a.row.own; alone = a.row.alone }
+
+  pub record IsFilled (a : leaves.Inside T) : Type 0 where
+    pub counted : a.count ≡ length (all_in a.row.lists)
+    pub full : AreFull a.row.lists

@@ -13,6 +13,8 @@ pub record Paged (T : Type 0) : Type 0 where
 -- a row of lists as callers see it
 pub record Row (T : Type 0) : Type 0 where
   pub lists : List (List T)
+  -- for each list, whether it may be written
+  pub own : List Bool
   -- whether the row has shared no list since it was made
   pub alone : Bool
 

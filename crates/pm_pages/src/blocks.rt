@@ -94,6 +94,13 @@ impl<T: Drop> Block<T> {
 }
 
 impl<T: CopyOf + Drop> Block<T> {
+    /// A block of the same items.
+    pub(crate) fn copy(&self) -> Result<Self, Memory>
+        ensures { IfOk result (λ b. b ≡ self.now) }
+    {
+        Block::copy_of(*self.items.allocator(), &self.items)
+    }
+
     /// A block of the same items, with room for one more.
     pub(crate) fn copy_of(alloc: Global, items: &[T]) -> Result<Self, Memory>
         ensures { IfOk result (λ b. b ≡ items.now) }

@@ -42,7 +42,7 @@ pub(crate) fn item_at<T>(pages: &[Page<T>], spot: Spot) -> &T
     &items(page)[spot.offset]
 }
 
-fn from<T>(items: &[T], start: usize) -> &[T]
+pub(crate) fn from<T>(items: &[T], start: usize) -> &[T]
     requires { start ≤ length items.now }
     ensures { result.now ≡ drop start items.now }
 {
@@ -58,6 +58,46 @@ pub(crate) fn items_from<T>(pages: &[Page<T>], spot: Spot) -> &[T]
 {
     let page = &pages[spot.page];
     from(items(page), spot.offset)
+}
+
+/// How many items from a spot on are passed by: 0 where its page is the list's own, else those to the end of the page.
+fn passed<T>(pages: &[Page<T>], spot: Spot) -> usize
+    requires page { spot.page < length pages.now }
+    requires offset { spot.offset < length (piece items_of pages.now spot.page) }
+    ensures { result ≡ 0 → own_page pages.now spot.page ≡ true }
+{
+    let page = &pages[spot.page];
+    match page {
+        Page::Own(_) => 0,
+        Page::Shared(_) => items(page).len() - spot.offset,
+    }
+}
+
+/// The first place from one on whose page is the list's own, or the number of items: a shared page costs one look.
+pub(crate) fn next_own<T>(
+    pages: &[Page<T>],
+    starts: &[usize],
+    room: usize,
+    count: usize,
+    from: usize,
+) -> usize
+    requires placed { starts.now ≡ starts_from items_of 0 pages.now }
+    requires count { count ≡ length (listed pages.now) }
+    requires from { from ≤ count }
+    ensures from { from ≤ result }
+    ensures within { result ≤ count }
+    ensures own { result < count → IsOwnAt pages.now result }
+{
+    let mut i = from;
+    while i < count {
+        let spot = find(pages, starts, room, i);
+        let more = passed(pages, spot);
+        if more == 0 {
+            return i;
+        }
+        i = i.saturating_add(more);
+    }
+    count
 }
 
 /// Takes an item of an own page out. A page without items goes.

@@ -7,6 +7,8 @@
 mod blocks;
 mod copies;
 mod items;
+mod leaf;
+mod leaf_list;
 mod list;
 mod list_row;
 mod pages;
@@ -15,6 +17,7 @@ mod rows;
 mod tested;
 
 pub use copies::CopyOf;
+pub use leaf_list::LeafList;
 pub use list::PageList;
 pub use list_row::ListRow;
 

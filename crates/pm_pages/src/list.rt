@@ -7,7 +7,7 @@ ghost use Rattle.std.specs.Borrow.{sem};
 ghost use Rattle.pm_pages.specs.Paged.{IsOwn, Keeps, OwnWhere, Decides};
 
 use crate::copies::CopyOf;
-use crate::items::{find, item_at, items_from, push_item, put_item, take_item};
+use crate::items::{find, item_at, items_from, next_own, push_item, put_item, take_item};
 use crate::pages::Page;
 use crate::rows::{copy_pages, own_at, restart, share_pages};
 use crate::tested::{own_pages, remove_passing};
@@ -102,6 +102,16 @@ impl<T> PageList<T> {
     {
         let spot = find(&self.pages, &self.starts, self.room, i);
         self.pages[spot.page].item_mut(spot.offset)
+    }
+
+    /// The first place from one on whose page is the list's own, or the length: a shared page costs one look.
+    pub(crate) fn next_own(&self, from: usize) -> usize
+        requires { from ≤ length self.now.items }
+        ensures from { from ≤ result }
+        ensures within { result ≤ length self.now.items }
+        ensures own { result < length self.now.items → IsOwn self.now result }
+    {
+        next_own(&self.pages, &self.starts, self.room, self.count, from)
     }
 
     /// Where it takes its memory from.

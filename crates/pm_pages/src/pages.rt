@@ -231,11 +231,12 @@ pub(crate) fn halves_with<T: CopyOf + Drop>(
 }
 
 /// The same page once more, which shares its items where they are shared already.
-pub(crate) fn copy_page<T: CopyOf + Drop>(alloc: Global, page: &Page<T>) -> Result<Page<T>, Memory>
-    ensures { IfOk result (λ same. items_of same ≡ items_of page.now) }
+pub(crate) fn copy_page<T: CopyOf + Drop>(page: &Page<T>) -> Result<Page<T>, Memory>
+    ensures items { IfOk result (λ same. items_of same ≡ items_of page.now) }
+    ensures own { IfOk result (λ same. is_own same ≡ is_own page.now) }
 {
     match page {
-        Page::Own(block) => Ok(Page::Own(Block::copy_of(alloc, block.as_slice())?)),
+        Page::Own(block) => Ok(Page::Own(block.copy()?)),
         Page::Shared(shared) => Ok(Page::Shared(Arc::try_clone(shared)?)),
     }
 }

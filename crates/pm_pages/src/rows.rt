@@ -71,16 +71,6 @@ pub(crate) fn push_page<T: Drop>(pages: &mut Vec<Page<T>>, item: T) -> Result<()
     Ok(())
 }
 
-/// Puts a page without items behind the others.
-pub(crate) fn push_empty<T: Drop>(pages: &mut Vec<Page<T>>) -> Result<(), Memory>
-    ensures ok { OnOk result (pages.new.items ≡ pages.old.items ++ Page.Own [] ∷ []) }
-    ensures err { OnErr result (pages.new.items ≡ pages.old.items) }
-{
-    let alloc = *pages.allocator();
-    pages.push(Page::Own(Block::empty(alloc)))?;
-    Ok(())
-}
-
 /// Takes a page without items out.
 pub(crate) fn drop_empty<T: Drop>(pages: &mut Vec<Page<T>>, k: usize)
     requires { k < length pages.old.items }
@@ -116,7 +106,7 @@ pub(crate) fn copy_pages<T: CopyOf + Drop>(
 {
     let mut same = Vec::with_capacity(alloc, pages.len())?;
     for page in pages {
-        let again = copy_page(alloc, page)?;
+        let again = copy_page(page)?;
         same.push(again)?;
     }
     Ok(same)

@@ -146,6 +146,81 @@ fn copies_go_apart(rt: HostRuntime) -> Result<(), Fail> {
     Ok(())
 }
 
+/// A list in leaves, and its items in a vector.
+#[derive(Drop)]
+struct Grown {
+    list: LeafList<ElementId>,
+    plain: Vec<u32>,
+}
+
+fn grow(grown: &mut Grown, number: u32) -> Result<(), Fail> {
+    grown.list.push(ElementId(number))?;
+    grown.plain.push(number)?;
+    Ok(())
+}
+
+fn grown_of(rt: &HostRuntime, count: u32) -> Result<Grown, Fail> {
+    let mut grown = Grown {
+        list: LeafList::new(rt.alloc()),
+        plain: Vec::new(rt.alloc()),
+    };
+    for number in 0..count {
+        grow(&mut grown, number)?;
+    }
+    Ok(grown)
+}
+
+fn grown_copy(rt: &HostRuntime, grown: &mut Grown) -> Result<Grown, Fail> {
+    grown.list.share()?;
+    Ok(Grown {
+        list: grown.list.copy()?,
+        plain: Vec::from_slice(rt.alloc(), &grown.plain)?,
+    })
+}
+
+fn overwrite(grown: &mut Grown, at: usize, number: u32) -> Result<(), Fail> {
+    if at < grown.list.len() && at < grown.plain.len() {
+        grown.list.own_at(at)?;
+        *grown.list.edit(at) = ElementId(number);
+        grown.plain[at] = number;
+    }
+    Ok(())
+}
+
+/// Overwrites some items, at the ends of leaves among them, and puts as many behind the others.
+fn go_on(grown: &mut Grown, number: u32) -> Result<(), Fail> {
+    for at in [0, 15, 16, 17, 31, 511, 512, 513] {
+        overwrite(grown, at, number.wrapping_add(at as u32))?;
+        grow(grown, number)?;
+    }
+    Ok(())
+}
+
+fn check_grown(rt: &impl Abort, grown: &Grown) {
+    let count = grown.plain.len();
+    assert_eq!(rt; grown.list.len(), count);
+    assert!(rt; grown.list.get(count).is_none());
+    for (i, number) in grown.plain.iter().enumerate() {
+        let item = grown.list.get(i).expect(rt, "an item");
+        assert_eq!(rt; item.number(), *number, "at {i} of {count}");
+    }
+}
+
+#[test]
+fn leaves_grow_and_go_apart(rt: HostRuntime) -> Result<(), Fail> {
+    for count in [0, 1, 15, 16, 17, 511, 512, 513] {
+        let mut first = grown_of(&rt, count)?;
+        let mut second = grown_copy(&rt, &mut first)?;
+        let third = grown_copy(&rt, &mut first)?;
+        go_on(&mut first, 1000)?;
+        go_on(&mut second, 2000)?;
+        check_grown(&rt, &first);
+        check_grown(&rt, &second);
+        check_grown(&rt, &third);
+    }
+    Ok(())
+}
+
 /// Takes each item out whose number has the rest, of both.
 fn remove_rest(pair: &mut Pair, rest: u32) -> Result<(), Fail> {
     let has_rest = |id: &ElementId| id.number() % 3 == rest;

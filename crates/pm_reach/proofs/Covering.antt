@@ -1,6 +1,6 @@
--- The unions of pages: which numbers are passed by, and that each change leaves them with all that the rows have.
-use Rattle.std.proofs.Common.{◌≡◌, ◌≢◌, ◌<◌, ◌≤◌, ◌+◌, ◌/◌, ◌%◌, ℕ, Bool, true, false, not, List, ◌∷◌, Option, Some, None, refl, sym, ◌∙◌, ◌||◌, ◌&&◌, ◌==◌, inl, inr, arith}
-use Rattle.std.proofs.lemmas.Bool.{true≢false, cases_lt, cases_eq, eqb-true}
+-- The unions of pages: which pages are passed by, and that each change leaves them with all that the rows have.
+use Rattle.std.proofs.Common.{◌≡◌, ◌≢◌, ◌/◌, ℕ, Bool, true, false, not, List, ◌∷◌, Option, Some, None, refl, sym, ◌∙◌, ◌||◌, ◌&&◌, ◌==◌, inl, inr}
+use Rattle.std.proofs.lemmas.Bool.{true≢false, cases_eq, eqb-true, false_from_ne_true}
 use Rattle.pm_reach.specs.Rows.{place_at, has, below}
 use Rattle.pm_reach.specs.Changes.{TellContainment, Makes, Assigns, Deassigns, Removes}
 use Rattle.pm_reach.specs.Unions.{AreUnions, Keeps, Cover}
@@ -9,27 +9,12 @@ use Rattle.pm_reach.proofs.Orders.{or-cases, and-both, less-contained}
 use Rattle.pm_reach.proofs.Openings.{below-none}
 use Rattle.pm_reach.proofs.Passing.{has_below, same_below}
 
--- ---- numbers that are passed by
+-- ---- a page that is passed by
 
-pub page_passed : (rows unions : List (List (Option (List ℕ)))) (x z : ℕ) → z % 64 ≡ 0 →
-    ((p : ℕ) → z ≤ p → below rows p x ≡ true → below unions (p / 64) x ≡ true) → below unions (z / 64) x ≡ false →
-    (p : ℕ) → z ≤ p → p < z + 64 → below rows p x ≡ false
-page_passed rows unions x z begins found lacks p l s = go (below rows p x) refl where
-  go : (b : Bool) → below rows p x ≡ b → b ≡ false
-  go false e = refl
-  go true e =
-      let same : p / 64 ≡ z / 64 = omega arith in
-      absurd (true≢false (sym (found p l e) ∙ rw same lacks))
-
-pub row_passed : (rows : List (List (Option (List ℕ)))) (x z : ℕ) → below rows z x ≡ false → (p : ℕ) → z ≤ p → p < z + 1 → below rows p x ≡ false
-row_passed rows x z h p l s = let same : p ≡ z = omega arith in rw same h
-
-pub more_passed : (rows : List (List (Option (List ℕ)))) (x from z n : ℕ) → ((p : ℕ) → from ≤ p → p < z → below rows p x ≡ false) →
-    ((p : ℕ) → z ≤ p → p < z + n → below rows p x ≡ false) → (p : ℕ) → from ≤ p → p < z + n → below rows p x ≡ false
-more_passed rows x from z n none more p l s = elim (cases_lt p z) [
-  | inl h ↦ none p l h
-  | inr h ↦ more p h s
-]
+pub union_lacks : (unions rows : List (List (Option (List ℕ)))) (k y : ℕ) → AreUnions unions rows → below unions k y ≡ false →
+    (x : ℕ) → x / 64 ≡ k → below rows x y ≡ false
+unfolding AreUnions
+union_lacks unions rows k y are lacks x at = false_from_ne_true (below rows x y) (λ is. true≢false (sym (are x y is) ∙ rw at lacks))
 
 -- ---- a union that gets what another row has
 

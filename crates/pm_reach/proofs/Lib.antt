@@ -1,5 +1,6 @@
 pub mod Bits
 pub mod Covering
+pub mod Finding
 pub mod Gathering
 pub mod Making
 pub mod Openings
@@ -8,6 +9,8 @@ pub mod Pages
 pub mod Passing
 pub mod Preparing
 pub mod Readying
+pub mod Rising
+pub mod Sharing
 pub mod Spanning
 pub mod Tables
 pub mod WholeWords

@@ -1,5 +1,5 @@
 -- What was made ready, followed, is the change that the step says.
-use Rattle.std.proofs.Common.{◌≡◌, ◌≢◌, ℕ, true, false, ◌||◌, ◌==◌, List, Vec, Option, Some, None, is_some, refl, sym, ap, ◌∙◌, inl, inr}
+use Rattle.std.proofs.Common.{◌≡◌, ◌≢◌, ℕ, Bool, true, false, ◌||◌, ◌==◌, List, Vec, Option, Some, None, is_some, refl, sym, ap, ◌∙◌, inl, inr}
 use Rattle.std.proofs.lemmas.Bool.{cases_eq, eq-eqb}
 use Rattle.std.specs.declared.alloc.Global.{Global}
 use Rattle.pm_reach.specs.Words.{in_row}
@@ -8,9 +8,9 @@ use Rattle.pm_reach.specs.Changes.{CanFollow, Makes, Assigns}
 use Rattle.pm_reach.specs.Passes.{Rewrites}
 use Rattle.pm_reach.specs.NewRows.{new_words, made_below}
 use Rattle.pm_reach.specs.Table.{Table}
-use Rattle.pm_reach.specs.Ready.{MakeReady, AssignReady, IsTaken, step_of}
+use Rattle.pm_reach.specs.Ready.{MakeReady, AssignReady, DeassignReady, IsTaken, step_of}
 use Rattle.pm_reach.specs.declared.table.NewRow.{NewRow}
-use Rattle.pm_reach.specs.declared.containers.Span.{Span}
+use Rattle.pm_reach.specs.declared.inside.Inside.{Inside}
 use Rattle.pm_reach.specs.declared.step.Step.{Step}
 use Rattle.pm_reach.specs.declared.step.Step.TheVariants as step
 use Rattle.pm_reach.specs.declared.ready.Ready.{Ready}
@@ -93,11 +93,19 @@ assigned_to (step.Assign x y) = y
 assigned_to (step.Deassign x y) = y
 assigned_to (step.Remove x) = x
 
-pub assigned : (t : Table) (new : List (List (Option (List ℕ)))) {r : Ready} {span : Span} {other : Vec ℕ Global} {x' x y' y written : ℕ} →
-    r ≡ ready.Assign x' y' span other → step_of r ≡ step.Assign x y → IsTaken t r →
-    Rewrites x (λ p q. below t.rows p q || in_row other.items q) t.rows new written → Assigns x y t.rows new
-assigned t new {r} {span} {other} {x'} {x} {y'} {y} {written} e s taken rewrites =
-    let same : step.Assign x' y' ≡ step.Assign x y = sym (ap step_of e) ∙ s in
+pub assigned : (t : Table) (new : List (List (Option (List ℕ)))) {r : Ready} {inside : Inside} {other : Vec ℕ Global} {y' x y written : ℕ} →
+    r ≡ ready.Assign inside y' other → step_of r ≡ step.Assign x y → IsTaken t r →
+    Rewrites inside.of (λ p q. below t.rows p q || in_row other.items q) t.rows new written → Assigns x y t.rows new
+assigned t new {r} {inside} {other} {y'} {x} {y} {written} e s taken rewrites =
+    let same : step.Assign inside.of y' ≡ step.Assign x y = sym (ap step_of e) ∙ s in
+    let same_x : inside.of ≡ x = ap made_x same in
     let same_y : y' ≡ y = ap assigned_to same in
-    let was : AssignReady t x' y' span other.items = rw e at taken in
-    assigns t.rows new x y written (λ q. in_row other.items q) (λ q. was.same q ∙ ap (λ n. below t.rows n q) same_y) rewrites
+    let was : AssignReady t inside y' other.items = rw e at taken in
+    assigns t.rows new x y written (λ q. in_row other.items q) (λ q. was.same q ∙ ap (λ n. below t.rows n q) same_y) (rw same_x at rewrites)
+
+-- ---- an assignment that is taken away
+
+pub deassign_ready : (t : Table) {r : Ready} {inside : Inside} {marks : Vec Bool Global} {queue row : Vec ℕ Global} {y' x y : ℕ} →
+    r ≡ ready.Deassign inside y' marks queue row → step_of r ≡ step.Deassign x y → IsTaken t r →
+    (inside.of ≡ x) × DeassignReady t inside marks.items queue.items row.items
+deassign_ready t e s taken = (ap made_x (sym (ap step_of e) ∙ s), rw e at taken)

@@ -2,7 +2,7 @@
 use Rattle.std.proofs.Common.{◌≡◌, ◌≢◌, ℕ, zero, suc, ◌*◌, ◌/◌, ◌%◌, ◌<◌, ◌≤◌, true, List, [], ◌∷◌, ◌++◌, length, map, Option, Some, None, is_some, option_map, unwrap_or, slice_get, set, get_or, Vec, vec_capacity, Global, refl, sym, ap, ◌∙◌, arith, inl, inr}
 use Rattle.std.proofs.lemmas.Bool.{true≢false, false≢true, cases_eq}
 use Rattle.std.proofs.lemmas.List.{map-set, length-append, length-map}
-use Rattle.std.proofs.lemmas.Option.{slice_get-map, slice_get_within}
+use Rattle.std.proofs.lemmas.Option.{slice_get-map, slice_get_read, slice_get_within}
 use Rattle.pm_reach.specs.Rows.{option_at, page_at, place_at, has}
 use Rattle.pm_reach.specs.Table.{words_of, shown, spare, page_rows, page_rooms, page_places, tabled, is_own, IsPushed, HasRoom, Writes}
 use Rattle.pm_reach.specs.declared.held.Held.{Held}
@@ -139,6 +139,14 @@ ready-own pages x n h = go (slice_get pages (x / 64)) (rw room_in at h) where
 pub ready-page : (pages : List (Held Page)) (x n : ℕ) (p : Page) → slice_get pages (x / 64) ≡ Some (Own p) → HasRoom (place_at (map page_rooms pages) x) n →
     HasRoom (option_at (spare p.rows.items) (x % 64)) n
 ready-page pages x n p e h = rw (room_in pages x, e) at h
+
+-- a page of the table's own that was written where it stands
+pub page_written : (pages : List (Held Page)) (k : ℕ) (h : Held Page) {page : Page} (made : Page) → is_own (slice_get pages k) ≡ true →
+    h ≡ get_or pages k h → h ≡ Own page → Swapped pages (set pages k (Own made)) k (Own page) (Own made)
+page_written pages k h {page} made owned read own =
+    let there = is_own_some pages k owned in
+    let fits : k < length pages = slice_get_within pages k (Own there.0) there.1 in
+    swapped pages pages (set pages k (Own made)) k (Own page) (Own made) (slice_get_read pages (length pages) k h refl fits read ∙ ap Some own) (λ v. refl) refl
 
 -- a row stands in its page
 pub has-page : (pages : List (Held Page)) (x : ℕ) (p : Page) → slice_get pages (x / 64) ≡ Some (Own p) → has (map page_rows pages) x ≡ true →

@@ -1,10 +1,9 @@
 -- One number more of a pass.
-use Rattle.std.proofs.Common.{◌≡◌, ◌≢◌, ℕ, zero, suc, ◌+◌, ◌-◌, add-one, ◌<◌, ◌≤◌, ◌/◌, Bool, true, false, List, Option, Some, None, is_some, refl, sym, ap, ◌∙◌, arith, inl, inr}
+use Rattle.std.proofs.Common.{◌≡◌, ◌≢◌, ℕ, zero, suc, ◌+◌, ◌-◌, add-one, ◌<◌, ◌≤◌, Bool, true, false, List, Option, Some, None, is_some, refl, sym, ap, ◌∙◌, arith, inl, inr}
 use Rattle.std.proofs.lemmas.Bool.{cases_eq, cases_lt, true≢false, false≢true}
 use Rattle.pm_reach.specs.Rows.{place_at, row_has, has, below, count_of, most}
 use Rattle.pm_reach.specs.Table.{Table, IsReady, Writes}
 use Rattle.pm_reach.specs.Passes.{Rewrites, Passed, Spans}
-use Rattle.pm_reach.specs.Unions.{AreUnions}
 
 below-has : (o : Option (List ℕ)) (q : ℕ) → row_has o q ≡ true → is_some o ≡ true
 below-has None q h = absurd (false≢true h)
@@ -65,46 +64,36 @@ pub same_below : {o o' : Option (List ℕ)} → o ≡ o' → (q : ℕ) → row_h
 same_below e q = ap (λ o. row_has o q) e
 
 pub Passed-yes : {x n : ℕ} {made : ℕ → ℕ → Bool} {old now new : Table} {z written : ℕ} → Passed x n made old now z written →
-    below now.rows z x ≡ true → Writes z now new → ((q : ℕ) → below new.rows z q ≡ made z q) → Passed x n made old new (z + 1) (written + 1)
-Passed-yes {x} {n} {made} {old} {now} {new} {z} {written} a is w row =
-    let was : below old.rows z x ≡ true = sym (same_below (a.rest z (omega arith)) x) ∙ is in
-    record {
-      within = λ p l h q. elim (cases_eq p z) [
-        | inl e ↦ rw e (row q)
-        | inr ne ↦ same_below (w.others p ne) q ∙ a.within p (omega arith) h q
-      ];
-      others = λ p h. elim (cases_eq p z) [
-        | inl e ↦ absurd (true≢false (sym was ∙ rw e at h))
-        | inr ne ↦ w.others p ne ∙ a.others p h
-      ];
-      rest = λ p l. let ne : p ≢ z = omega arith in w.others p ne ∙ a.rest p (omega arith);
-      live = λ p. w.has p ∙ a.live p;
-      ready = λ p l h. let ne : p ≢ z = omega arith in w.ready p n ne (a.ready p (omega arith) h);
-      count = rw a.count (sym (count-yes (λ p. below old.rows p x) z was));
-    }
+    below old.rows z x ≡ true → Writes z now new → ((q : ℕ) → below new.rows z q ≡ made z q) → Passed x n made old new (z + 1) (written + 1)
+Passed-yes {x} {n} {made} {old} {now} {new} {z} {written} a was w row = record {
+  within = λ p l h q. elim (cases_eq p z) [
+    | inl e ↦ rw e (row q)
+    | inr ne ↦ same_below (w.others p ne) q ∙ a.within p (omega arith) h q
+  ];
+  others = λ p h. elim (cases_eq p z) [
+    | inl e ↦ absurd (true≢false (sym was ∙ rw e at h))
+    | inr ne ↦ w.others p ne ∙ a.others p h
+  ];
+  rest = λ p l. let ne : p ≢ z = omega arith in w.others p ne ∙ a.rest p (omega arith);
+  live = λ p. w.has p ∙ a.live p;
+  ready = λ p l h. let ne : p ≢ z = omega arith in w.ready p n ne (a.ready p (omega arith) h);
+  count = rw a.count (sym (count-yes (λ p. below old.rows p x) z was));
+}
 
 -- the numbers from z to `next` are passed by
 pub Passed-by : {x n : ℕ} {made : ℕ → ℕ → Bool} {old now : Table} {z written : ℕ} (next : ℕ) → Passed x n made old now z written → z ≤ next →
-    ((p : ℕ) → z ≤ p → p < next → below now.rows p x ≡ false) → Passed x n made old now next written
+    ((p : ℕ) → z ≤ p → p < next → below old.rows p x ≡ false) → Passed x n made old now next written
 Passed-by {x} {n} {made} {old} {now} {z} {written} next a more none = record {
   within = λ p l h q. elim (cases_lt p z) [
     | inl s ↦ a.within p s h q
-    | inr s ↦ absurd (false≢true (sym (was p s l) ∙ h))
+    | inr s ↦ absurd (false≢true (sym (none p s l) ∙ h))
   ];
   others = a.others;
   rest = λ p l. a.rest p (omega arith);
   live = a.live;
   ready = λ p l h. a.ready p (omega arith) h;
-  count = a.count ∙ sym (count-all (λ p. below old.rows p x) z next more was);
-} where
-  was : (p : ℕ) → z ≤ p → p < next → below old.rows p x ≡ false
-  was p s l = sym (same_below (a.rest p s) x) ∙ none p s l
-
--- the unions have what the rows have that are still to be passed
-pub Passed-unions : {x n : ℕ} {made : ℕ → ℕ → Bool} {old now : Table} {z written : ℕ} (unions : List (List (Option (List ℕ)))) → Passed x n made old now z written →
-    AreUnions unions old.rows → (p : ℕ) → z ≤ p → below now.rows p x ≡ true → below unions (p / 64) x ≡ true
-unfolding AreUnions
-Passed-unions {x} unions a are p l h = are p x (sym (same_below (a.rest p l) x) ∙ h)
+  count = a.count ∙ sym (count-all (λ p. below old.rows p x) z next more none);
+}
 
 pub Passed-all : {x n : ℕ} {made : ℕ → ℕ → Bool} {old now : Table} {z written : ℕ} → Passed x n made old now z written →
     ((p : ℕ) → below old.rows p x ≡ true → p < z) → z ≤ most → Rewrites x made old.rows now.rows written

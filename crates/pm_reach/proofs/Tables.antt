@@ -1,7 +1,8 @@
 -- Lists by number, in which some have nothing.
-use Rattle.std.proofs.Common.{◌≡◌, ◌≢◌, ℕ, zero, suc, ◌<◌, ◌≤◌, true, List, [], ◌∷◌, ◌++◌, length, map, Option, Some, None, is_some, option_map, set, vec_capacity, refl, sym, ap, ◌∙◌, arith, inl, inr}
+use Rattle.std.proofs.Common.{◌≡◌, ◌≢◌, ℕ, zero, suc, ◌<◌, ◌≤◌, true, List, [], ◌∷◌, ◌++◌, length, map, Option, Some, None, is_some, option_map, unwrap_or, get_or, set, vec_capacity, refl, sym, ap, ◌∙◌, arith, inl, inr}
 use Rattle.std.proofs.lemmas.Bool.{true≢false, cases_eq}
 use Rattle.std.proofs.lemmas.List.{map-set}
+use Rattle.std.proofs.lemmas.Option.{slice_get_read}
 use Rattle.pm_reach.specs.Words.{in_row}
 use Rattle.pm_reach.specs.Rows.{option_at, row_has}
 use Rattle.pm_reach.specs.Table.{words_of, room_of, room_at, shown, spare, HasRoom}
@@ -74,6 +75,15 @@ replaced rows mid new j old made was out back =
       others = λ i ne. rw at (option_at-set_other rows j i (Some made) ne);
       at = at;
     }
+
+-- a row of the page's own that was written where it stands
+pub written : (rows : List (Option (Held Row))) (j n : ℕ) (o : Option (Held Row)) {held : Held Row} {row : Row} (made : Row) → HasRoom (option_at (spare rows) j) n →
+    o ≡ get_or rows j o → o ≡ Some held → held ≡ Own row → Replaced rows (set rows j (Some (Own made))) j (Own row) (Own made)
+written rows j n o {held} {row} made room read is own =
+    let there = own_at rows j n room in
+    let fits : j < length rows = option_at-within rows j (rw there.1 refl) in
+    let was : option_at rows j ≡ Some (Own row) = ap (λ x. unwrap_or x None) (slice_get_read rows (length rows) j o refl fits read) ∙ is ∙ ap Some own in
+    replaced rows (set rows j None) (set rows j (Some (Own made))) j (Own row) (Own made) was refl (sym (set_set rows j None (Some (Own made))))
 
 pub replaced-old : {rows new : List (Option (Held Row))} {j : ℕ} {old made : Held Row} → Replaced rows new j old made →
     (q : ℕ) → row_has (option_at (shown rows) j) q ≡ in_row (words_of old) q

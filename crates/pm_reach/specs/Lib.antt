@@ -1,9 +1,11 @@
 pub mod Changes
+pub mod Inside
 pub mod NewRows
 pub mod Order
 pub mod Passes
 pub mod Ready
 pub mod Rows
+pub mod Sharing
 pub mod Table
 pub mod Unions
 pub mod Words

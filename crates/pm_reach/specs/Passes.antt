@@ -9,6 +9,14 @@ use Rattle.pm_reach.specs.Table.{Table, IsReady}
 abbrev pub AreContainers : List (List (Option (List ℕ))) → List ℕ → Type 0
 AreContainers rows containers = (p y : ℕ) → below rows p y ≡ true → in_row containers y ≡ false → p ≡ y
 
+-- in what is contained in x, numbers rise from containers to what is in them
+abbrev pub IsRising : List (List (Option (List ℕ))) → ℕ → Type 0
+IsRising rows x = (z w : ℕ) → below rows z x ≡ true → below rows w x ≡ true → below rows z w ≡ true → w ≤ z
+
+-- no container of z that is contained in x has a higher number
+abbrev pub IsLast : List (ℕ × ℕ) → List (List (Option (List ℕ))) → ℕ → ℕ → Type 0
+IsLast assigned rows x z = (w : ℕ) → below rows w x ≡ true → contained assigned z w ≡ true → w ≤ z
+
 -- the number is the one that is given, where one is
 abbrev pub is_given : Option ℕ → ℕ → Bool
 is_given None q = false

@@ -1,12 +1,13 @@
 -- A step that is ready to be followed: all memory that it needs is there.
-use Rattle.std.specs.Prelude.{◌≡◌, ◌<◌, ◌*◌, ℕ, Bool, true, List, length, Option, Some, None, is_some, ⊤}
+use Rattle.std.specs.Prelude.{◌≡◌, ◌<◌, ◌*◌, ◌⊎◌, ℕ, Bool, true, List, length, Option, Some, None, is_some, ⊤}
 use Rattle.pm_search.specs.Marks.{NoneMarked}
 use Rattle.pm_reach.specs.Words.{in_row}
 use Rattle.pm_reach.specs.Rows.{row_has, has, below}
 use Rattle.pm_reach.specs.Changes.{CanFollow}
-use Rattle.pm_reach.specs.Passes.{Spans}
+use Rattle.pm_reach.specs.Passes.{IsRising}
+use Rattle.pm_reach.specs.Inside.{IsInside}
 use Rattle.pm_reach.specs.Unions.{Cover}
-use Rattle.pm_reach.specs.declared.containers.Span.{Span}
+use Rattle.pm_reach.specs.declared.inside.Inside.{Inside}
 use Rattle.pm_reach.specs.Table.{Table, IsReady, IsOpen}
 use Rattle.pm_reach.specs.NewRows.{new_words, made_below, Fits}
 use Rattle.pm_reach.specs.declared.table.NewRow.{NewRow}
@@ -20,30 +21,31 @@ pub record MakeReady (t : Table) (x : ℕ) (into : Option ℕ) (row : NewRow) : 
   pub there : is_some (new_words x row) ≡ true
   pub words : (q : ℕ) → row_has (new_words x row) q ≡ made_below t.rows x into q
 
-pub record AssignReady (t : Table) (x y : ℕ) (span : Span) (other : List ℕ) : Type 0 where
-  pub spans : Spans t.rows x span.low span.high
-  pub rows : (z : ℕ) → below t.rows z x ≡ true → IsReady t z (length other)
+pub record AssignReady (t : Table) (inside : Inside) (y : ℕ) (other : List ℕ) : Type 0 where
+  pub found : IsInside t.rows inside
+  pub rows : (z : ℕ) → below t.rows z inside.of ≡ true → IsReady t z (length other)
   pub same : (q : ℕ) → in_row other q ≡ below t.rows y q
 
-pub record DeassignReady (t : Table) (x : ℕ) (span : Span) (marks : List Bool) (queue row : List ℕ) : Type 0 where
-  pub spans : Spans t.rows x span.low span.high
-  pub rows : (z : ℕ) → below t.rows z x ≡ true → IsReady t z 0
+pub record DeassignReady (t : Table) (inside : Inside) (marks : List Bool) (queue row : List ℕ) : Type 0 where
+  pub found : IsInside t.rows inside
+  pub rows : (z : ℕ) → below t.rows z inside.of ≡ true → IsReady t z 0
   pub none : NoneMarked marks
-  pub fits : (w : ℕ) → has t.rows w ≡ true → w < length marks
+  -- a search has room for all, where there may be one
+  pub fits : IsRising t.rows inside.of ⊎ ((w : ℕ) → has t.rows w ≡ true → w < length marks)
   pub as_long : length queue ≡ length marks
   pub wide : (w : ℕ) → has t.rows w ≡ true → w < 64 * length row
 
 abbrev pub step_of : Ready → Step
 step_of (ready.Make x into row) = step.Make x into
-step_of (ready.Assign x y span other) = step.Assign x y
-step_of (ready.Deassign x y span marks queue row) = step.Deassign x y
+step_of (ready.Assign inside y other) = step.Assign inside.of y
+step_of (ready.Deassign inside y marks queue row) = step.Deassign inside.of y
 step_of (ready.Remove x) = step.Remove x
 
 -- the memory for the step is there
 abbrev pub IsTaken : Table → Ready → Type 0
 IsTaken t (ready.Make x into row) = MakeReady t x into row
-IsTaken t (ready.Assign x y span other) = AssignReady t x y span other.items
-IsTaken t (ready.Deassign x y span marks queue row) = DeassignReady t x span marks.items queue.items row.items
+IsTaken t (ready.Assign inside y other) = AssignReady t inside y other.items
+IsTaken t (ready.Deassign inside y marks queue row) = DeassignReady t inside marks.items queue.items row.items
 IsTaken t (ready.Remove x) = IsOpen t x
 
 -- where a step is ready, rows can follow it, the memory for it is there, and the unions have what it brings

@@ -3,7 +3,7 @@
 //! is put together from those of its containers; a search is left for an element one of whose
 //! containers has a higher number and a row that is still to be made anew.
 
-ghost use Rattle.std.specs.Prelude.{◌≡◌, ℕ, ◌<◌, ◌||◌, ◌∷◌, ◌*◌, true, false, not, nat_lt, length, IsTrue};
+ghost use Rattle.std.specs.Prelude.{◌≡◌, ℕ, ◌<◌, ◌||◌, ◌⊎◌, ◌∷◌, ◌*◌, true, false, not, nat_lt, length, IsTrue};
 ghost use Rattle.std.specs.Bool.{OnTrue};
 ghost use Rattle.pm_model.specs.Containment.{contained};
 ghost use Rattle.pm_search.specs.Marks.{NoneMarked};
@@ -11,35 +11,31 @@ ghost use Rattle.pm_reach.specs.Words.{in_row};
 ghost use Rattle.pm_reach.specs.Rows.{has, below, inside};
 ghost use Rattle.pm_reach.specs.Order.{IsOrder};
 ghost use Rattle.pm_reach.specs.Table.{IsReady, Writes};
-ghost use Rattle.pm_reach.specs.Passes.{Rewrites, Spans, TellSoFar, AreWithin};
-ghost use Rattle.pm_reach.specs.Unions.{AreUnions};
+ghost use Rattle.pm_reach.specs.Inside.{IsInside};
+ghost use Rattle.pm_reach.specs.Passes.{Rewrites, TellSoFar, AreWithin, IsLast, IsRising};
 ghost use Rattle.pm_reach.specs.Changes.{TellContainment, CanFollow, Makes, Assigns, Deassigns, Removes};
 ghost use Rattle.pm_reach.specs.Ready.{step_of, IsTaken};
 ghost use Rattle.pm_reach.specs.declared.step.Step.{Step};
 
-use crate::containers::Span;
+use crate::inside::Inside;
 use crate::ready::Ready;
 use crate::table::RowTable;
-use crate::unions::next_inside;
 use crate::words;
 use pm_model::{ElementId, Parents};
 use pm_search::{mark_all, unmark};
 
-/// Puts what the other row has into the row of each element that is contained in x. Answers how many
-/// they are.
-#[tactic(auto, unfolding(crate::specs::Unions::AreUnions))]
-fn join_all(table: &mut RowTable, unions: &RowTable, x: u32, span: Span, other: &[u64]) -> u64
-    requires span { Spans table.old.rows x span.low span.high }
-    requires unions { AreUnions unions.now.rows table.old.rows }
-    requires ready { (z : ℕ) → below table.old.rows z x ≡ true → IsReady table.old z (length other.now) }
-    ensures { Rewrites x (λ p q. below table.old.rows p q || in_row other.now q) table.old.rows table.new.rows result }
+/// Puts what the other row has into the row of each element that is inside. Answers how many they are.
+fn join_all(table: &mut RowTable, inside: &Inside, other: &[u64]) -> u64
+    requires inside { IsInside table.old.rows inside.now }
+    requires ready { (z : ℕ) → below table.old.rows z inside.now.of ≡ true → IsReady table.old z (length other.now) }
+    ensures { Rewrites inside.now.of (λ p q. below table.old.rows p q || in_row other.now q) table.old.rows table.new.rows result }
 {
     let mut written = 0;
-    let mut z = next_inside(table, unions, x, span.low, span.high);
-    while z < span.high {
+    let mut z = inside.next(inside.span.low);
+    while z < inside.span.high {
         table.join(z, other);
         written += 1;
-        z = next_inside(table, unions, x, z + 1, span.high);
+        z = inside.next(z + 1);
     }
     written
 }
@@ -52,7 +48,7 @@ fn is_final(table: &RowTable, x: u32, z: u32, w: u32) -> bool
 }
 
 /// Puts z and what the rows of its containers have into the row, where each of these is final. Answers
-/// whether they are.
+/// whether they are, as where no container of z that is contained in x has a higher number.
 fn gather<P: Parents>(table: &RowTable, x: u32, z: u32, parents: &P, row: &mut [u64]) -> bool
     requires live { IsTrue (P.live parents.now z) }
     requires rows { (w : ℕ) → IsTrue (P.live parents.now w) → has table.now.rows w ≡ true }
@@ -60,12 +56,16 @@ fn gather<P: Parents>(table: &RowTable, x: u32, z: u32, parents: &P, row: &mut [
     requires z { z < 64 * length row.old }
     requires within { AreWithin (length row.old) table.now.rows }
     ensures row { OnTrue result ((q : ℕ) → in_row row.new q ≡ contained (P.assigned parents.now) z q) }
+    ensures last { IsLast (P.assigned parents.now) table.now.rows x z → result ≡ true }
     ensures long { length row.new ≡ length row.old }
 {
     words::empty(row);
     words::set_bit(row, z);
     for i in 0..parents.count(ElementId(z)) {
         let w = parents.parent(ElementId(z), i).number();
+        if w == z {
+            continue;
+        }
         if !is_final(table, x, z, w) {
             return false;
         }
@@ -91,7 +91,8 @@ fn search<P: Parents>(z: u32, parents: &P, marks: &mut [bool], queue: &mut [u32]
     unmark(marks, queue, end);
 }
 
-/// Makes the row of z anew. It has no more than before.
+/// Makes the row of z anew. It has no more than before. The memory for a search may be missing where no
+/// container of z that is contained in x has a higher number.
 fn remake<P: Parents>(
     table: &mut RowTable,
     x: u32,
@@ -106,7 +107,7 @@ fn remake<P: Parents>(
     requires rows { (w : ℕ) → IsTrue (P.live parents.now w) → has table.old.rows w ≡ true }
     requires less { (q : ℕ) → contained (P.assigned parents.now) z q ≡ true → below table.old.rows z q ≡ true }
     requires told { TellSoFar (P.assigned parents.now) table.old.rows x z }
-    requires fits { (w : ℕ) → IsTrue (P.live parents.now w) → w < length marks.old }
+    requires fits { IsLast (P.assigned parents.now) table.old.rows x z ⊎ ((w : ℕ) → IsTrue (P.live parents.now w) → w < length marks.old) }
     requires as_long { length queue.old ≡ length marks.old }
     requires none { NoneMarked marks.old }
     requires within { AreWithin (length row.old) table.old.rows }
@@ -121,37 +122,33 @@ fn remake<P: Parents>(
     table.overwrite(z, row);
 }
 
-/// Makes the row of each element that is contained in x anew. Answers how many they are.
-#[tactic(auto, unfolding(crate::specs::Unions::AreUnions))]
+/// Makes the row of each element that is inside anew. Answers how many they are.
 fn remake_all<P: Parents>(
     table: &mut RowTable,
-    unions: &RowTable,
-    x: u32,
-    span: Span,
+    inside: &Inside,
     parents: &P,
     marks: &mut [bool],
     queue: &mut [u32],
     row: &mut [u64],
 ) -> u64
-    requires span { Spans table.old.rows x span.low span.high }
-    requires unions { AreUnions unions.now.rows table.old.rows }
-    requires ready { (z : ℕ) → below table.old.rows z x ≡ true → IsReady table.old z 0 }
+    requires inside { IsInside table.old.rows inside.now }
+    requires ready { (z : ℕ) → below table.old.rows z inside.now.of ≡ true → IsReady table.old z 0 }
     requires live { (z : ℕ) → has table.old.rows z ≡ true → IsTrue (P.live parents.now z) }
     requires rows { (z : ℕ) → IsTrue (P.live parents.now z) → has table.old.rows z ≡ true }
     requires less { (z q : ℕ) → has table.old.rows z ≡ true → contained (P.assigned parents.now) z q ≡ true → below table.old.rows z q ≡ true }
-    requires outside { (z q : ℕ) → has table.old.rows z ≡ true → below table.old.rows z x ≡ false → below table.old.rows z q ≡ contained (P.assigned parents.now) z q }
-    requires fits { (w : ℕ) → IsTrue (P.live parents.now w) → w < length marks.old }
+    requires outside { (z q : ℕ) → has table.old.rows z ≡ true → below table.old.rows z inside.now.of ≡ false → below table.old.rows z q ≡ contained (P.assigned parents.now) z q }
+    requires fits { IsRising table.old.rows inside.now.of ⊎ ((w : ℕ) → IsTrue (P.live parents.now w) → w < length marks.old) }
     requires as_long { length queue.old ≡ length marks.old }
     requires none { NoneMarked marks.old }
     requires within { AreWithin (length row.old) table.old.rows }
-    ensures { Rewrites x (contained (P.assigned parents.now)) table.old.rows table.new.rows result }
+    ensures { Rewrites inside.now.of (contained (P.assigned parents.now)) table.old.rows table.new.rows result }
 {
     let mut written = 0;
-    let mut z = next_inside(table, unions, x, span.low, span.high);
-    while z < span.high {
-        remake(table, x, z, parents, marks, queue, row);
+    let mut z = inside.next(inside.span.low);
+    while z < inside.span.high {
+        remake(table, inside.of.number(), z, parents, marks, queue, row);
         written += 1;
-        z = next_inside(table, unions, x, z + 1, span.high);
+        z = inside.next(z + 1);
     }
     written
 }
@@ -170,23 +167,14 @@ pub(crate) fn make(table: &mut RowTable, ready: Ready, x: ElementId, into: Optio
 }
 
 /// Lets the rows follow an assignment of x to y. Answers how many were written.
-pub(crate) fn assign(
-    table: &mut RowTable,
-    unions: &RowTable,
-    ready: Ready,
-    x: ElementId,
-    y: ElementId,
-) -> u64
+pub(crate) fn assign(table: &mut RowTable, ready: Ready, x: ElementId, y: ElementId) -> u64
     requires step { step_of ready ≡ Step.Assign x y }
     requires taken { IsTaken table.old ready }
-    requires unions { AreUnions unions.now.rows table.old.rows }
     ensures rows { Assigns x y table.old.rows table.new.rows }
     ensures count { result ≡ inside table.old.rows x }
 {
     match ready {
-        Ready::Assign { span, other, .. } => {
-            join_all(table, unions, x.number(), span, other.as_slice())
-        }
+        Ready::Assign { inside, other, .. } => join_all(table, &inside, other.as_slice()),
         _ => unreachable!(),
     }
 }
@@ -195,7 +183,6 @@ pub(crate) fn assign(
 /// how many were written.
 pub(crate) fn deassign<P: Parents>(
     table: &mut RowTable,
-    unions: &RowTable,
     ready: Ready,
     x: ElementId,
     y: ElementId,
@@ -203,7 +190,6 @@ pub(crate) fn deassign<P: Parents>(
 ) -> u64
     requires step { step_of ready ≡ Step.Deassign x y }
     requires taken { IsTaken table.old ready }
-    requires unions { AreUnions unions.now.rows table.old.rows }
     requires order { IsOrder table.old.rows }
     requires live { (z : ℕ) → has table.old.rows z ≡ true → IsTrue (P.live parents.now z) }
     requires rows { (z : ℕ) → IsTrue (P.live parents.now z) → has table.old.rows z ≡ true }
@@ -213,16 +199,14 @@ pub(crate) fn deassign<P: Parents>(
 {
     match ready {
         Ready::Deassign {
-            span,
+            inside,
             mut marks,
             mut queue,
             mut row,
             ..
         } => remake_all(
             table,
-            unions,
-            x.number(),
-            span,
+            &inside,
             parents,
             marks.as_mut_slice(),
             queue.as_mut_slice(),

@@ -1,7 +1,9 @@
 //! What is shared is never written: an `Arc` gives its value only to a sole owner. So a change of one
 //! table never shows in another.
 
-ghost use Rattle.std.specs.Prelude.{◌≡◌, IfOk, IfErr};
+ghost use Rattle.std.specs.Prelude.{◌≡◌, true, IfOk, IfErr};
+ghost use Rattle.std.specs.Borrow.{Lends, sem};
+ghost use Rattle.pm_reach.specs.Sharing.{is_owned};
 ghost use Rattle.pm_reach.specs.Table.{value_of};
 
 use std::alloc::Global;
@@ -14,6 +16,22 @@ pub(crate) enum Held<T> {
     Own(T),
     /// Other tables may have it too.
     Shared(Arc<T>),
+}
+
+impl<T> Held<T> {
+    ghost use Rattle.pm_reach.specs.contracts.held.Held.{the_row};
+
+    /// What no other table has, to be written.
+    pub(crate) fn own_mut(&mut self) -> &mut T
+        requires { is_owned self.old ≡ true }
+        ensures* writes_back { sem 𝓛 (Lends (the_row T.row) T.row self.entry result Held.Own) }
+        ensures value { self.old ≡ Held.Own result.now }
+    {
+        match self {
+            Held::Own(value) => value,
+            Held::Shared(_) => unreachable!(),
+        }
+    }
 }
 
 pub(crate) fn read<T>(held: &Held<T>) -> &T

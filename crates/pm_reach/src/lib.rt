@@ -6,8 +6,10 @@
 mod changes;
 mod containers;
 mod held;
+mod inside;
 mod laws;
 mod page;
+mod reach;
 mod ready;
 mod rows;
 mod step;
@@ -17,7 +19,7 @@ mod view;
 mod words;
 
 pub use laws::{added_rows_tell, assigned_rows_tell, created_rows_tell, removed_rows_tell};
-pub use rows::ReachRows;
+pub use reach::ReachRows;
 pub use step::Step;
 pub use view::RowsView;
 

@@ -1,9 +1,10 @@
 //! A page: the rows of 64 numbers. It ends behind its last row.
 
-ghost use Rattle.std.specs.Prelude.{◌≡◌, ◌≢◌, ℕ, ◌<◌, ◌≤◌, ◌==◌, ◌||◌, [], true, false, None, Some, length, slice_set, vec_len, vec_capacity, option_map, is_some, IfOk, IfErr, OnOk, OnErr, IsSome};
+ghost use Rattle.std.specs.Prelude.{◌≡◌, ◌≢◌, ℕ, ◌<◌, ◌≤◌, ◌==◌, ◌||◌, ◌/◌, ◌%◌, [], true, false, None, Some, length, slice_set, vec_len, vec_capacity, option_map, is_some, IfOk, IfErr, OnOk, OnErr, IsSome};
+ghost use Rattle.std.specs.Bool.{OnTrue};
 ghost use Rattle.std.specs.Option.{option_copied};
 ghost use Rattle.pm_reach.specs.Words.{in_row};
-ghost use Rattle.pm_reach.specs.Rows.{option_at, row_has};
+ghost use Rattle.pm_reach.specs.Rows.{option_at, row_has, most};
 ghost use Rattle.pm_reach.specs.Table.{value_of, words_in, words_of, room_at, shown, spare, HasRoom};
 ghost use Rattle.pm_reach.specs.declared.held.Held.{Held};
 ghost use Rattle.pm_reach.specs.declared.page.Row.{Row};
@@ -12,6 +13,7 @@ use crate::held::{Held, read, shared};
 use crate::words;
 use pm_model::Memory;
 use std::alloc::Global;
+use std::cmp::min;
 use std::sync::Arc;
 
 /// A row of bits.
@@ -34,6 +36,31 @@ pub(crate) fn find_row(rows: &[Option<Held<Row>>], j: usize) -> Option<&[u64]>
     match rows.get(j) {
         Some(Some(row)) => Some(read(row).words.as_slice()),
         _ => None,
+    }
+}
+
+/// Puts the numbers of page k whose rows have x into the row.
+pub(crate) fn mark_rows(rows: &[Option<Held<Row>>], k: u32, x: u32, into: &mut [u64])
+    requires few { k < most }
+    requires wide { k < length into.old }
+    ensures here { (q : ℕ) → q / 64 ≡ k → in_row into.new q ≡ (in_row into.old q || row_has (option_at (shown rows.now) (q % 64)) x) }
+    ensures others { (q : ℕ) → q / 64 ≢ k → in_row into.new q ≡ in_row into.old q }
+    ensures long { length into.new ≡ length into.old }
+{
+    for j in 0..min(rows.len(), 64) {
+        if row_at_has(rows, j, x) {
+            words::set_bit(into, 64 * k + j as u32);
+        }
+    }
+}
+
+/// Whether there is a row at the place, and x is in it.
+fn row_at_has(rows: &[Option<Held<Row>>], j: usize, x: u32) -> bool
+    ensures { result ≡ row_has (option_at (shown rows.now) j) x }
+{
+    match find_row(rows, j) {
+        Some(words) => words::has(words, x),
+        None => false,
     }
 }
 
@@ -108,6 +135,16 @@ fn unshared_row(alloc: Global, shared: Arc<Row>) -> Result<Row, Held<Row>>
     }
 }
 
+/// Whether a row is the page's own, with room for so many words.
+fn has_room(row: &Option<Held<Row>>, n: usize) -> bool
+    ensures { OnTrue result (HasRoom (room_at row.now) n) }
+{
+    match row {
+        Some(Held::Own(row)) => n <= row.words.capacity(),
+        _ => false,
+    }
+}
+
 /// Makes the row at a place the page's own, with room for so many words.
 pub(crate) fn ready_row(rows: &mut Vec<Option<Held<Row>>>, j: usize, n: usize) -> Result<(), Memory>
     requires { IsSome (option_at rows.old.items j) }
@@ -115,6 +152,9 @@ pub(crate) fn ready_row(rows: &mut Vec<Option<Held<Row>>>, j: usize, n: usize) -
     ensures room { OnOk result (HasRoom (option_at (spare rows.new.items) j) n) }
     ensures stays { (i m : ℕ) → HasRoom (option_at (spare rows.old.items) i) m → HasRoom (option_at (spare rows.new.items) i) m }
 {
+    if has_room(&rows[j], n) {
+        return Ok(());
+    }
     let alloc = *rows.allocator();
     let held = take_row(rows, j);
     match own_row(alloc, held) {
@@ -137,9 +177,10 @@ pub(crate) fn join_row(rows: &mut Vec<Option<Held<Row>>>, j: usize, other: &[u64
     ensures live { is_some (option_at rows.new.items j) ≡ true }
     ensures others { (i : ℕ) → i ≢ j → option_at rows.new.items i ≡ option_at rows.old.items i }
 {
-    let mut row = take_own(rows, j);
-    words::join(&mut row.words, other);
-    put_row(rows, j, Held::Own(row));
+    match &mut rows[j] {
+        Some(Held::Own(row)) => words::join(&mut row.words, other),
+        _ => unreachable!(),
+    }
 }
 
 /// Lets the row at a place have what another row has, which it has already, and nothing else.
@@ -150,21 +191,9 @@ pub(crate) fn overwrite_row(rows: &mut Vec<Option<Held<Row>>>, j: usize, other: 
     ensures live { is_some (option_at rows.new.items j) ≡ true }
     ensures others { (i : ℕ) → i ≢ j → option_at rows.new.items i ≡ option_at rows.old.items i }
 {
-    let mut row = take_own(rows, j);
-    words::overwrite(&mut row.words, other);
-    put_row(rows, j, Held::Own(row));
-}
-
-/// Takes a row out that can be written.
-#[tactic(auto, using(crate::proofs::Tables::own_at))]
-fn take_own(rows: &mut Vec<Option<Held<Row>>>, j: usize) -> Row
-    requires { HasRoom (option_at (spare rows.old.items) j) 0 }
-    ensures row { option_at rows.old.items j ≡ Some (Held.Own result) }
-    ensures rows { rows.new.items ≡ slice_set rows.old.items j None }
-{
-    match take_row(rows, j) {
-        Held::Own(row) => row,
-        Held::Shared(_) => unreachable!(),
+    match &mut rows[j] {
+        Some(Held::Own(row)) => words::overwrite(&mut row.words, other),
+        _ => unreachable!(),
     }
 }
 

@@ -1,21 +1,23 @@
 //! Making ready: all memory that following a step needs is taken before anything is written.
 
-ghost use Rattle.std.specs.Prelude.{◌≡◌, ℕ, ◌<◌, ◌≤◌, ◌*◌, ◌/◌, true, length, OnOk, IfOk};
+ghost use Rattle.std.specs.Prelude.{◌≡◌, ℕ, ◌<◌, ◌≤◌, ◌*◌, ◌/◌, ◌⊎◌, true, length, OnOk, IfOk};
 ghost use Rattle.pm_search.specs.Marks.{NoneMarked};
 ghost use Rattle.pm_reach.specs.Words.{in_row};
 ghost use Rattle.pm_reach.specs.Rows.{has, below};
 ghost use Rattle.pm_reach.specs.Table.{IsReady};
 ghost use Rattle.pm_reach.specs.NewRows.{made_below};
 ghost use Rattle.pm_reach.specs.Changes.{CanFollow};
-ghost use Rattle.pm_reach.specs.Passes.{AreContainers, Spans};
+ghost use Rattle.pm_reach.specs.Passes.{AreContainers, IsRising};
+ghost use Rattle.pm_reach.specs.Inside.{IsInside};
 ghost use Rattle.pm_reach.specs.Ready.{step_of, IsTaken};
 ghost use Rattle.pm_reach.specs.Unions.{AreUnions, Cover};
 ghost use Rattle.pm_reach.specs.declared.step.Step.{Step};
 
-use crate::containers::{Containers, Span, span_of};
+use crate::containers::Containers;
+use crate::inside::{Inside, inside_of, rises};
 use crate::step::Step;
 use crate::table::{NewRow, RowTable};
-use crate::unions::{cover, next_inside};
+use crate::unions::cover;
 use crate::words::row_with;
 use pm_model::{ElementId, Memory};
 use std::alloc::Global;
@@ -30,17 +32,17 @@ pub(crate) enum Ready {
         row: NewRow,
     },
     Assign {
-        x: ElementId,
+        /// All that is contained in the element that is assigned.
+        inside: Inside,
         y: ElementId,
-        span: Span,
         /// What the row of y has.
         other: Vec<u64>,
     },
     Deassign {
-        x: ElementId,
+        /// All that is contained in the element whose assignment is taken away.
+        inside: Inside,
         y: ElementId,
-        span: Span,
-        /// For a search from each element that is contained in x.
+        /// For a search from an element inside, where one may be needed.
         marks: Vec<bool>,
         queue: Vec<u32>,
         /// For the row of each of them in turn.
@@ -123,9 +125,18 @@ fn ready_assign(
     ensures covered { OnOk result (Cover unions.new.rows table.old.rows (Step.Assign x y)) }
 {
     let other = Vec::from_slice(table.alloc(), table.words(y.number()))?;
-    let span = span_of(table, containers, x.number());
-    let span = ready_all(table, unions, x.number(), span, other.as_slice())?;
-    Ok(Ready::Assign { x, y, span, other })
+    let inside = inside_of(table, unions, containers, x)?;
+    ready_all(table, unions, &inside, other.as_slice())?;
+    Ok(Ready::Assign { inside, y, other })
+}
+
+/// How many numbers a search from what is inside may meet: none where numbers rise there from containers
+/// to what is in them, so that each row is put together from those of its containers.
+fn searched(table: &RowTable, inside: &Inside) -> usize
+    requires { IsInside table.now.rows inside.now }
+    ensures { IsRising table.now.rows inside.now.of ⊎ ((y : ℕ) → has table.now.rows y ≡ true → y < result) }
+{
+    if rises(table, inside) { 0 } else { table.len() }
 }
 
 pub(crate) fn ready_deassign(
@@ -142,16 +153,15 @@ pub(crate) fn ready_deassign(
     ensures step { IfOk result (λ ready. step_of ready ≡ Step.Deassign x y) }
     ensures taken { IfOk result (λ ready. IsTaken table.new ready) }
 {
-    let size = table.len();
-    let marks = no_marks(table.alloc(), size)?;
-    let queue = no_numbers(table.alloc(), size)?;
-    let row = no_words(table.alloc(), size)?;
-    let span = span_of(table, containers, x.number());
-    let span = ready_all(table, unions, x.number(), span, &[])?;
+    let inside = inside_of(table, unions, containers, x)?;
+    let searched = searched(table, &inside);
+    let marks = no_marks(table.alloc(), searched)?;
+    let queue = no_numbers(table.alloc(), searched)?;
+    let row = no_words(table.alloc(), table.len())?;
+    ready_all(table, unions, &inside, &[])?;
     Ok(Ready::Deassign {
-        x,
+        inside,
         y,
-        span,
         marks,
         queue,
         row,
@@ -168,34 +178,33 @@ fn ready_remove(table: &mut RowTable, x: ElementId) -> Result<Ready, Memory>
     Ok(Ready::Remove { x })
 }
 
-/// Makes room for the other row in the row of each element that is contained in x, and puts it into the
-/// unions of their pages. Answers a span of these elements that begins with the first of them and ends
-/// behind the last.
+/// Makes room for the other row in the row of each element that is inside, and puts it into the unions of
+/// their pages.
 #[tactic(auto, unfolding(crate::specs::Unions::AreUnions))]
 fn ready_all(
     table: &mut RowTable,
     unions: &mut RowTable,
-    x: u32,
-    span: Span,
+    inside: &Inside,
     other: &[u64],
-) -> Result<Span, Memory>
-    requires span { Spans table.old.rows x span.low span.high }
+) -> Result<(), Memory>
+    requires inside { IsInside table.old.rows inside.now }
     requires unions { AreUnions unions.old.rows table.old.rows }
     ensures rows { table.new.rows ≡ table.old.rows }
     ensures unions { AreUnions unions.new.rows table.old.rows }
-    ensures spans { IfOk result (λ found. Spans table.old.rows x found.low found.high) }
-    ensures ready { OnOk result ((z : ℕ) → below table.old.rows z x ≡ true → IsReady table.new z (length other.now)) }
-    ensures covered { OnOk result ((z q : ℕ) → below table.old.rows z x ≡ true → in_row other.now q ≡ true → below unions.new.rows (z / 64) q ≡ true) }
+    ensures ready { OnOk result ((z : ℕ) → below table.old.rows z inside.now.of ≡ true → IsReady table.new z (length other.now)) }
+    ensures covered { OnOk result ((z q : ℕ) → below table.old.rows z inside.now.of ≡ true → in_row other.now q ≡ true → below unions.new.rows (z / 64) q ≡ true) }
 {
-    let mut z = next_inside(table, unions, x, span.low, span.high);
-    let mut found = Span { low: z, high: z };
-    while z < span.high {
+    let mut z = inside.next(inside.span.low);
+    let mut covered = 0;
+    while z < inside.span.high {
         table.ready(z, other.len())?;
-        cover(unions, z, other)?;
-        found.high = z + 1;
-        z = next_inside(table, unions, x, z + 1, span.high);
+        if covered <= z / 64 {
+            cover(unions, z, other)?;
+            covered = z / 64 + 1;
+        }
+        z = inside.next(z + 1);
     }
-    Ok(found)
+    Ok(())
 }
 
 fn no_marks(alloc: Global, size: usize) -> Result<Vec<bool>, Memory>

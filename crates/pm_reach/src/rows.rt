@@ -1,6 +1,6 @@
 //! The rows, with the number of those that were written.
 
-ghost use Rattle.std.specs.Prelude.{◌≡◌, ℕ, ◌<◌, ◌≤◌, ◌∷◌, [], true, false, Some, None, is_some, nat_lt, if◌then◌else◌, IsTrue, IsSome, IfOk, OnOk, OnErr, ◌+◌, ◌*◌, ◌==◌};
+ghost use Rattle.std.specs.Prelude.{◌≡◌, ℕ, ◌<◌, ◌≤◌, ◌∷◌, [], true, false, Some, None, is_some, nat_lt, if◌then◌else◌, IsTrue, IsSome, IfOk, OnOk, OnErr, ◌+◌, ◌*◌, ◌/◌, ◌==◌};
 ghost use Rattle.std.specs.Int.{bit_at};
 ghost use Rattle.pm_model.specs.State.{element_at, opening_elements, opening_assigned};
 ghost use Rattle.pm_reach.specs.Rows.{has, below, inside, most, counted};
@@ -25,7 +25,7 @@ use std::marker::Model;
 /// and at each row of the pages whose union has the element. The unions are a filter, which may have
 /// more than the rows. They are at most 256 rows, which take 512 KiB.
 #[derive(Drop)]
-pub struct ReachRows {
+pub(crate) struct Rows {
     table: RowTable,
     /// Row k has all that the rows of the numbers from 64 k on, 64 of them, have, and maybe more.
     unions: RowTable,
@@ -34,7 +34,7 @@ pub struct ReachRows {
     containers: Containers,
 }
 
-impl Model for ReachRows {
+impl Model for Rows {
     ghost use Rattle.std.specs.Prelude.{option_map};
     ghost use Rattle.pm_reach.specs.Rows.{Reached};
     ghost use Rattle.pm_reach.specs.Order.{IsOrder};
@@ -58,14 +58,14 @@ fn take(ready: &mut Option<Ready>) -> Ready
     ready.take().unwrap()
 }
 
-impl ReachRows {
+impl Rows {
     /// The rows of the opening graph.
-    pub fn opening(alloc: Global) -> Result<ReachRows, Memory>
+    pub(crate) fn opening(alloc: Global) -> Result<Rows, Memory>
         ensures live { IfOk result (λ r. (x : ℕ) → has r.rows x ≡ is_some (element_at opening_elements x)) }
         ensures rows { IfOk result (λ r. TellContainment opening_assigned r.rows) }
         ensures written { IfOk result (λ r. r.written ≡ 0) }
     {
-        let mut rows = ReachRows::unassigned(alloc, 3)?;
+        let mut rows = Rows::unassigned(alloc, 3)?;
         rows.on_assign(ElementId(2), ElementId(1))?;
         rows.on_assign(ElementId(1), ElementId(0))?;
         rows.written = 0;
@@ -73,12 +73,12 @@ impl ReachRows {
     }
 
     // The rows of so many elements, of which none is assigned to another.
-    pub(crate) fn unassigned(alloc: Global, size: u32) -> Result<ReachRows, Memory>
+    pub(crate) fn unassigned(alloc: Global, size: u32) -> Result<Rows, Memory>
         requires { size ≤ most }
         ensures live { IfOk result (λ r. (x : ℕ) → has r.rows x ≡ nat_lt x size) }
         ensures rows { IfOk result (λ r. TellContainment [] r.rows) }
     {
-        let mut rows = ReachRows::empty(alloc)?;
+        let mut rows = Rows::empty(alloc)?;
         for x in 0..size {
             rows.on_add(ElementId(x))?;
         }
@@ -86,11 +86,11 @@ impl ReachRows {
     }
 
     #[tactic(auto, unfolding(crate::specs::Unions::AreUnions))]
-    fn empty(alloc: Global) -> Result<ReachRows, Memory>
+    fn empty(alloc: Global) -> Result<Rows, Memory>
         ensures { IfOk result (λ r. r.rows ≡ []) }
     {
         let containers = Containers::new(alloc)?;
-        Ok(ReachRows {
+        Ok(Rows {
             table: RowTable::new(alloc),
             unions: RowTable::new(alloc),
             written: 0,
@@ -100,14 +100,14 @@ impl ReachRows {
     }
 
     /// The rows are a partial order.
-    pub fn ordered(&self)
+    pub(crate) fn ordered(&self)
         ensures { IsOrder self.now.rows }
     {
         let _ = &self.table;
     }
 
     /// Whether x is contained in y.
-    pub fn contains(&self, x: ElementId, y: ElementId) -> bool
+    pub(crate) fn contains(&self, x: ElementId, y: ElementId) -> bool
         requires x { has self.now.rows x ≡ true }
         requires y { has self.now.rows y ≡ true }
         ensures { result ≡ below self.now.rows x y }
@@ -116,16 +116,25 @@ impl ReachRows {
     }
 
     /// Which of the numbers from 64 k on, 64 of them, x is contained in: bit i is the number 64 k + i.
-    pub fn above(&self, x: ElementId, k: u32) -> u64
+    pub(crate) fn above(&self, x: ElementId, k: u32) -> u64
         requires { has self.now.rows x ≡ true }
         ensures { (i : ℕ) → i < 64 → (bit_at result i == 1) ≡ below self.now.rows x (64 * k + i) }
     {
         self.table.word(x.number(), k)
     }
 
+    /// Whether some of the numbers from 64 k on, 64 of them, may be contained in y, as the union of their rows tells. It may say
+    /// yes where none is, and never no where one is.
+    #[tactic(auto, using(crate::proofs::Covering::union_lacks))]
+    pub(crate) fn may_hold(&self, y: ElementId, k: u32) -> bool
+        ensures { result ≡ false → (x : ℕ) → x / 64 ≡ k → below self.now.rows x y ≡ false }
+    {
+        self.unions.has(k, y.number())
+    }
+
     /// Takes all memory that following the step needs, and changes no row. What was ready before is let
     /// go, also after want of memory.
-    pub fn prepare(&mut self, step: Step) -> Result<(), Memory>
+    pub(crate) fn prepare(&mut self, step: Step) -> Result<(), Memory>
         requires possible { CanFollow self.old.rows step }
         ensures rows { self.new.rows ≡ self.old.rows }
         ensures written { self.new.written ≡ self.old.written }
@@ -139,7 +148,7 @@ impl ReachRows {
     }
 
     /// Follows that x was made, and assigned to the container where there is one.
-    pub fn follow_make(&mut self, x: ElementId, into: Option<ElementId>)
+    pub(crate) fn follow_make(&mut self, x: ElementId, into: Option<ElementId>)
         requires { self.old.ready ≡ Some (Step.Make x into) }
         ensures rows { Makes x into self.old.rows self.new.rows }
         ensures written { self.new.written ≡ counted self.old.written (if is_some into then 2 else 1) }
@@ -155,7 +164,7 @@ impl ReachRows {
     }
 
     /// Follows that x was assigned to y.
-    pub fn follow_assign(&mut self, x: ElementId, y: ElementId)
+    pub(crate) fn follow_assign(&mut self, x: ElementId, y: ElementId)
         requires { self.old.ready ≡ Some (Step.Assign x y) }
         ensures rows { Assigns x y self.old.rows self.new.rows }
         ensures written { self.new.written ≡ counted self.old.written (inside self.old.rows x) }
@@ -163,13 +172,13 @@ impl ReachRows {
     {
         self.table.bounded();
         let ready = take(&mut self.ready);
-        let more = assign(&mut self.table, &self.unions, ready, x, y);
+        let more = assign(&mut self.table, ready, x, y);
         self.containers.put(y.number());
         self.written = self.written.saturating_add(more);
     }
 
     /// Follows that x isn't assigned to y any more. The parents are those after this.
-    pub fn follow_deassign<P: Parents>(&mut self, x: ElementId, y: ElementId, parents: &P)
+    pub(crate) fn follow_deassign<P: Parents>(&mut self, x: ElementId, y: ElementId, parents: &P)
         requires ready { self.old.ready ≡ Some (Step.Deassign x y) }
         requires live { (z : ℕ) → has self.old.rows z ≡ true → IsTrue (P.live parents.now z) }
         requires rows { (z : ℕ) → IsTrue (P.live parents.now z) → has self.old.rows z ≡ true }
@@ -179,12 +188,12 @@ impl ReachRows {
         ensures ready { self.new.ready ≡ None }
     {
         let ready = take(&mut self.ready);
-        let more = deassign(&mut self.table, &self.unions, ready, x, y, parents);
+        let more = deassign(&mut self.table, ready, x, y, parents);
         self.written = self.written.saturating_add(more);
     }
 
     /// Follows that x was deleted.
-    pub fn follow_remove(&mut self, x: ElementId)
+    pub(crate) fn follow_remove(&mut self, x: ElementId)
         requires { self.old.ready ≡ Some (Step.Remove x) }
         ensures rows { Removes x self.old.rows self.new.rows }
         ensures written { self.new.written ≡ self.old.written }
@@ -195,7 +204,7 @@ impl ReachRows {
     }
 
     /// Prepares and follows that x is made.
-    pub fn on_add(&mut self, x: ElementId) -> Result<(), Memory>
+    pub(crate) fn on_add(&mut self, x: ElementId) -> Result<(), Memory>
         requires none { has self.old.rows x ≡ false }
         requires few { x < most }
         ensures rows { OnOk result (Adds x self.old.rows self.new.rows) }
@@ -208,7 +217,7 @@ impl ReachRows {
     }
 
     /// Prepares and follows that x is assigned to y.
-    pub fn on_assign(&mut self, x: ElementId, y: ElementId) -> Result<(), Memory>
+    pub(crate) fn on_assign(&mut self, x: ElementId, y: ElementId) -> Result<(), Memory>
         requires x { has self.old.rows x ≡ true }
         requires y { has self.old.rows y ≡ true }
         requires apart { below self.old.rows y x ≡ false }
@@ -222,7 +231,7 @@ impl ReachRows {
     }
 
     /// Prepares and follows that x isn't assigned to y any more. The parents are those after this.
-    pub fn on_deassign<P: Parents>(
+    pub(crate) fn on_deassign<P: Parents>(
         &mut self,
         x: ElementId,
         y: ElementId,
@@ -237,13 +246,13 @@ impl ReachRows {
     {
         self.ready = None;
         let ready = ready_deassign(&mut self.table, &mut self.unions, &self.containers, x, y)?;
-        let more = deassign(&mut self.table, &self.unions, ready, x, y, parents);
+        let more = deassign(&mut self.table, ready, x, y, parents);
         self.written = self.written.saturating_add(more);
         Ok(())
     }
 
     /// Prepares and follows that x is deleted.
-    pub fn on_remove(&mut self, x: ElementId) -> Result<(), Memory>
+    pub(crate) fn on_remove(&mut self, x: ElementId) -> Result<(), Memory>
         requires x { has self.old.rows x ≡ true }
         requires empty { (p : ℕ) → below self.old.rows p x ≡ true → p ≡ x }
         ensures rows { OnOk result (Removes x self.old.rows self.new.rows) }
@@ -255,8 +264,13 @@ impl ReachRows {
         Ok(())
     }
 
+    /// Where it takes its memory from.
+    pub(crate) fn alloc(&self) -> Global {
+        self.table.alloc()
+    }
+
     /// Whether x has a row.
-    pub fn live(&self, x: ElementId) -> bool
+    pub(crate) fn live(&self, x: ElementId) -> bool
         ensures { result ≡ has self.now.rows x }
     {
         self.table.has_row(x.number())
@@ -265,7 +279,7 @@ impl ReachRows {
     /// How many rows were written since the opening, up to 2^64 - 1: those that making elements, assigning
     /// and taking assignments away write, one after another. So an element that is made in a container
     /// counts two, though its row is written once.
-    pub fn written(&self) -> u64
+    pub(crate) fn written(&self) -> u64
         ensures { result ≡ self.now.written }
     {
         self.written
@@ -274,7 +288,7 @@ impl ReachRows {
     /// Lets copies made from now on share all that is there: such a copy is one of pointers. It takes
     /// memory for what wasn't shared before. What is shared is copied where it is to be written, so
     /// nothing is ready any more.
-    pub fn share(&mut self) -> Result<(), Memory>
+    pub(crate) fn share(&mut self) -> Result<(), Memory>
         ensures rows { self.new.rows ≡ self.old.rows }
         ensures written { self.new.written ≡ self.old.written }
         ensures ready { self.new.ready ≡ None }
@@ -286,7 +300,7 @@ impl ReachRows {
 
     /// The same rows once more, with the same number of those written, and nothing ready. Neither sees
     /// what the other writes from then on.
-    pub fn copy(&self) -> Result<ReachRows, Memory>
+    pub(crate) fn copy(&self) -> Result<Rows, Memory>
         ensures rows { IfOk result (λ same. same.rows ≡ self.now.rows) }
         ensures written { IfOk result (λ same. same.written ≡ self.now.written) }
         ensures ready { IfOk result (λ same. same.ready ≡ None) }
@@ -294,7 +308,7 @@ impl ReachRows {
         let table = self.table.copy()?;
         let unions = self.unions.copy()?;
         let containers = self.containers.copy()?;
-        Ok(ReachRows {
+        Ok(Rows {
             table,
             unions,
             written: self.written,

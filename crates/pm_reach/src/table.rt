@@ -12,8 +12,8 @@ ghost use Rattle.pm_reach.specs.declared.page.Page.{Page};
 
 use crate::held::{Held, read, shared};
 use crate::page::{
-    Page, clear_row, copy_rows, find_row, join_row, overwrite_row, page_with, place_row, ready_row,
-    reserve_place, share_rows,
+    Page, clear_row, copy_rows, find_row, join_row, mark_rows, overwrite_row, page_with, place_row,
+    ready_row, reserve_place, share_rows,
 };
 use crate::words;
 use pm_model::Memory;
@@ -58,6 +58,29 @@ fn find(pages: &[Held<Page>], x: u32) -> Option<&[u64]>
     match pages.get(x as usize / 64) {
         Some(page) => find_row(read(page).rows.as_slice(), x as usize % 64),
         None => None,
+    }
+}
+
+/// Puts the numbers of page k whose rows have x into the row.
+fn mark_page(pages: &[Held<Page>], k: u32, x: u32, into: &mut [u64])
+    requires few { k < most }
+    requires wide { k < length into.old }
+    ensures here { (q : ℕ) → q / 64 ≡ k → in_row into.new q ≡ (in_row into.old q || below (map page_rows pages.now) q x) }
+    ensures others { (q : ℕ) → q / 64 ≢ k → in_row into.new q ≡ in_row into.old q }
+    ensures long { length into.new ≡ length into.old }
+{
+    if let Some(page) = pages.get(k as usize) {
+        mark_rows(read(page).rows.as_slice(), k, x, into);
+    }
+}
+
+/// Whether a page is the table's own.
+fn is_own(page: &Held<Page>) -> bool
+    ensures { result ≡ is_own (Some page.now) }
+{
+    match page {
+        Held::Own(_) => true,
+        Held::Shared(_) => false,
     }
 }
 
@@ -126,6 +149,9 @@ fn own_page(pages: &mut Vec<Held<Page>>, k: usize) -> Result<(), Memory>
     ensures own { OnOk result (is_own (slice_get pages.new.items k) ≡ true) }
     ensures stays { StaysReady (tabled pages.old) (tabled pages.new) }
 {
+    if is_own(&pages[k]) {
+        return Ok(());
+    }
     let alloc = *pages.allocator();
     let held = take_held(pages, k);
     match own(alloc, held) {
@@ -164,10 +190,10 @@ fn ready_at(pages: &mut Vec<Held<Page>>, x: u32, n: usize) -> Result<(), Memory>
 {
     let k = x as usize / 64;
     own_page(pages, k)?;
-    let mut page = take_page(pages, k);
-    let result = ready_row(&mut page.rows, x as usize % 64, n);
-    put_page(pages, k, Held::Own(page));
-    result
+    match &mut pages[k] {
+        Held::Own(page) => ready_row(&mut page.rows, x as usize % 64, n),
+        Held::Shared(_) => unreachable!(),
+    }
 }
 
 /// Puts what another row has into the row of x.
@@ -177,10 +203,10 @@ fn join_at(pages: &mut Vec<Held<Page>>, x: u32, other: &[u64])
     ensures row { (q : ℕ) → below (map page_rows pages.new.items) x q ≡ (below (map page_rows pages.old.items) x q || in_row other.now q) }
     ensures writes { Writes x (tabled pages.old) (tabled pages.new) }
 {
-    let k = x as usize / 64;
-    let mut page = take_page(pages, k);
-    join_row(&mut page.rows, x as usize % 64, other);
-    put_page(pages, k, Held::Own(page));
+    match &mut pages[x as usize / 64] {
+        Held::Own(page) => join_row(&mut page.rows, x as usize % 64, other),
+        Held::Shared(_) => unreachable!(),
+    }
 }
 
 /// Lets the row of x have what another row has, which it has already, and nothing else.
@@ -191,10 +217,10 @@ fn overwrite_at(pages: &mut Vec<Held<Page>>, x: u32, other: &[u64])
     ensures row { (q : ℕ) → below (map page_rows pages.new.items) x q ≡ in_row other.now q }
     ensures writes { Writes x (tabled pages.old) (tabled pages.new) }
 {
-    let k = x as usize / 64;
-    let mut page = take_page(pages, k);
-    overwrite_row(&mut page.rows, x as usize % 64, other);
-    put_page(pages, k, Held::Own(page));
+    match &mut pages[x as usize / 64] {
+        Held::Own(page) => overwrite_row(&mut page.rows, x as usize % 64, other),
+        Held::Shared(_) => unreachable!(),
+    }
 }
 
 /// Makes the page of x the table's own, with a place for the row of x.
@@ -358,7 +384,9 @@ fn share_pages(pages: &mut Vec<Held<Page>>) -> Result<(), Memory>
     ensures rows { map page_rows pages.new.items ≡ map page_rows pages.old.items }
 {
     for k in 0..pages.len() {
-        share_at(pages, k)?;
+        if is_own(&pages[k]) {
+            share_at(pages, k)?;
+        }
     }
     Ok(())
 }
@@ -418,6 +446,17 @@ impl RowTable {
             Some(row) => words::word(row, k),
             None => 0,
         }
+    }
+
+    /// Puts the numbers from 64 k on, 64 of them, whose rows have x into the row.
+    pub(crate) fn mark(&self, k: u32, x: u32, into: &mut [u64])
+        requires few { k < most }
+        requires wide { k < length into.old }
+        ensures here { (q : ℕ) → q / 64 ≡ k → in_row into.new q ≡ (in_row into.old q || below self.now.rows q x) }
+        ensures others { (q : ℕ) → q / 64 ≢ k → in_row into.new q ≡ in_row into.old q }
+        ensures long { length into.new ≡ length into.old }
+    {
+        mark_page(self.pages.as_slice(), k, x, into);
     }
 
     /// Makes the row of x the table's own, with room for so many words. It takes all the memory that

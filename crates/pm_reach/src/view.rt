@@ -3,7 +3,7 @@
 ghost use Rattle.std.specs.Prelude.{◌≡◌};
 ghost use Rattle.pm_reach.specs.Rows.{relation_of};
 
-use crate::rows::ReachRows;
+use crate::reach::ReachRows;
 use pm_model::{ElementId, Reach};
 
 /// A look at rows. It takes no memory.
@@ -30,5 +30,9 @@ impl<'a> Reach for RowsView<'a> {
 
     fn above(&mut self, x: ElementId, k: u32) -> u64 {
         self.rows.above(x, k)
+    }
+
+    fn may_hold(&mut self, y: ElementId, k: u32) -> bool {
+        self.rows.may_hold(y, k)
     }
 }

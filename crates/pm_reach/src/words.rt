@@ -1,11 +1,12 @@
 //! A row's words. Number y is in the row where bit y % 64 of word y / 64 is set; a row is only as long
 //! as it has to be.
 
-ghost use Rattle.std.specs.Prelude.{◌≡◌, ℕ, ◌<◌, ◌≤◌, ◌+◌, ◌*◌, ◌==◌, ◌||◌, true, false, length, slice_index, vec_len, vec_capacity, IfOk};
+ghost use Rattle.std.specs.Prelude.{◌≡◌, ℕ, ◌<◌, ◌≤◌, ◌+◌, ◌*◌, ◌==◌, ◌||◌, ◌/◌, true, false, length, slice_index, vec_len, vec_capacity, IfOk};
 ghost use Rattle.std.specs.Int.{bit_at};
 ghost use Rattle.std.specs.Bool.{OnTrue};
 ghost use Rattle.std.specs.List.{list_any};
 ghost use Rattle.pm_reach.specs.Words.{in_row};
+ghost use Rattle.pm_reach.specs.Rows.{most};
 
 use pm_model::Memory;
 use std::alloc::Global;
@@ -27,6 +28,66 @@ pub(crate) fn word(words: &[u64], k: u32) -> u64
 {
     let k = k as usize;
     if k < words.len() { words[k] } else { 0 }
+}
+
+/// The least number from z on in the word of z that the row has; where the next word begins, if there is
+/// none.
+fn next_in_word(words: &[u64], z: u32) -> u32
+    requires few { z < most }
+    ensures from { z ≤ result }
+    ensures to { result ≤ (z / 64 + 1) * 64 }
+    ensures none { (p : ℕ) → z ≤ p → p < result → in_row words.now p ≡ false }
+    ensures there { result < (z / 64 + 1) * 64 → in_row words.now result ≡ true }
+{
+    let rest = word(words, z / 64) >> (z % 64);
+    let found = z + rest.trailing_zeros();
+    let end = (z / 64 + 1) * 64;
+    if found < end { found } else { end }
+}
+
+/// The least number from `from` on that the row has, if it is below `high`; a number from `high` on where
+/// there is none.
+pub(crate) fn next(words: &[u64], from: u32, high: u32) -> u32
+    requires from { from ≤ most }
+    requires high { high ≤ most }
+    ensures from { from ≤ result }
+    ensures to { result ≤ most }
+    ensures none { (p : ℕ) → from ≤ p → p < result → in_row words.now p ≡ false }
+    ensures there { result < high → in_row words.now result ≡ true }
+{
+    let mut z = from;
+    while z < high {
+        let end = (z / 64 + 1) * 64;
+        z = next_in_word(words, z);
+        if z < end {
+            return z;
+        }
+    }
+    z
+}
+
+/// Whether some number above z is in both rows.
+pub(crate) fn meet_above(words: &[u64], other: &[u64], z: u32) -> bool
+    ensures { result ≡ false → (q : ℕ) → z < q → in_row words.now q ≡ true → in_row other.now q ≡ false }
+{
+    let k = z / 64;
+    let here = word(words, k) & word(other, k);
+    if here >> (z % 64) >> 1 != 0 {
+        return true;
+    }
+    meet_from(words, other, k as usize + 1)
+}
+
+/// Whether some number is in both rows from a word on.
+fn meet_from(words: &[u64], other: &[u64], k: usize) -> bool
+    ensures { result ≡ false → (q : ℕ) → k ≤ q / 64 → in_row words.now q ≡ true → in_row other.now q ≡ false }
+{
+    for i in k..min(words.len(), other.len()) {
+        if words[i] & other[i] != 0 {
+            return true;
+        }
+    }
+    false
 }
 
 /// Whether the row has all that the other row has. It may be no, too, where the row is the shorter one.

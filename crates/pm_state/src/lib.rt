@@ -15,8 +15,6 @@ mod reviews;
 mod sessions;
 mod state;
 mod tables;
-#[cfg(test)]
-mod tests;
 
 pub use asking::{capabilities_of, entries_of, is_user, live_elements, live_users};
 pub use draft::Draft;

@@ -11,8 +11,6 @@ mod reviewing;
 mod settling;
 mod solo;
 mod steps;
-#[cfg(test)]
-mod tests;
 
 pub use glances::Glance;
 pub use looking::glance;

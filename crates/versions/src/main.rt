@@ -1,11 +1,11 @@
-//! Makes one version of the machine after another, each by a step from the one before, and keeps all to
-//! the end. For measurement: the arguments are how many elements the policy has beside a class, and how
-//! many versions are made of it.
+//! Makes one version of the machine after another, each by a step from the one before, keeps all to the
+//! end, and then looks whether each still is as it was made. For measurement: the arguments are how many
+//! elements the policy has beside a class, and how many versions are made of it.
 #![tactic(auto)]
 
 mod policy;
 
-use pm_model::{Command, Memory};
+use pm_model::{Command, Memory, Name, Parents};
 use pm_state::State;
 use pm_step::{Stepped, step};
 use policy::{admin, class_name, element_name, policy};
@@ -23,11 +23,16 @@ fn number(args: &mut Args) -> u32 {
     }
 }
 
-/// The change that makes version n: an element is assigned to the class, or taken out of it again.
-fn change(n: u32, elements: u32) -> Option<Command> {
+/// The element that change n is of: any but the first, which is assigned to the class alone.
+fn element(n: u32, elements: u32) -> Option<Name> {
     let others = elements.checked_sub(1)?;
     let which = (n / 2).wrapping_mul(7919).checked_rem(others)?;
-    let from = element_name(which + 1)?;
+    element_name(which + 1)
+}
+
+/// Change n: an element is assigned to the class, or taken out of it again.
+fn change(n: u32, elements: u32) -> Option<Command> {
+    let from = element(n, elements)?;
     let to = class_name()?;
     if n % 2 == 0 {
         return Some(Command::Assign { from, to });
@@ -57,7 +62,8 @@ fn versions<R: Threads + Sync>(
     elements: u32,
     count: u32,
 ) -> Result<Vec<State>, Memory> {
-    let mut versions = vec![in alloc; first]?;
+    let mut versions = Vec::with_capacity(alloc, (count as usize).saturating_add(1))?;
+    versions.push(first)?;
     for n in 0..count {
         let Some(command) = change(n, elements) else {
             break;
@@ -73,16 +79,41 @@ fn versions<R: Threads + Sync>(
     Ok(versions)
 }
 
-/// How many elements and versions there are.
+/// How many elements the element of change n is assigned to.
+fn containers(state: &State, n: u32, elements: u32) -> Option<usize> {
+    let table = state.graph().elements();
+    let id = table.find(element(n, elements)?)?;
+    if !table.live(id) {
+        return None;
+    }
+    Some(table.count(id))
+}
+
+/// How many versions are as the change that made them, counted from 0, left its element: in its container and the class, or in
+/// its container alone.
+fn right(versions: &[State], elements: u32) -> usize {
+    let mut count = 0usize;
+    let mut n = 0u32;
+    for version in versions.iter().skip(1) {
+        let wanted = if n % 2 == 0 { 2 } else { 1 };
+        if containers(version, n, elements) == Some(wanted) {
+            count = count.saturating_add(1);
+        }
+        n = n.wrapping_add(1);
+    }
+    count
+}
+
+/// How many elements there are, how many versions, and how many of those that were made are as they were made.
 fn measure<R: Threads + AllocGlobal + Sync>(
     rt: &R,
     elements: u32,
     count: u32,
-) -> Result<(usize, usize), Memory> {
+) -> Result<(usize, usize, usize), Memory> {
     let first = policy(rt, rt.alloc(), elements)?;
     let held = first.graph().elements().len();
     let versions = versions(rt, rt.alloc(), first, elements, count)?;
-    Ok((held, versions.len()))
+    Ok((held, versions.len(), right(versions.as_slice(), elements)))
 }
 
 fn main(rt: HostRuntime) -> ExitCode {
@@ -93,8 +124,8 @@ fn main(rt: HostRuntime) -> ExitCode {
     let elements = number(&mut args);
     let count = number(&mut args);
     match measure(&rt, elements, count) {
-        Ok((elements, versions)) => {
-            let _ = println!(rt; "{elements} elements, {versions} versions");
+        Ok((elements, versions, right)) => {
+            let _ = println!(rt; "{elements} elements, {versions} versions, {right} made and kept");
             ExitCode::SUCCESS
         }
         Err(Memory) => ExitCode::FAILURE,

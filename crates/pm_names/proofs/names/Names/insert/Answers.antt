@@ -15,7 +15,7 @@ invariant_of-self-2 c =
     let opened = c.in_ok-open_lists.ensures in
     let lists = c.open_lists.new.row.lists in
     let none = ap (λ (p : Named). lookup (bytes_eq q) p.items) c.self.view_is ∙ c.requires in
-    fits-after c.insert.result c.insert.new.self c.open_lists.new.row _ c.insert.ensures.lists c.insert.ensures.err
+    fits-after c.insert.result c.insert.new.self.lists lists _ c.insert.ensures.lists c.insert.ensures.err
     (fits-edited (λ l. insert l 0 x) 0 c.list_of.result (list_of q) lists (omega (arith, h)) opened.fits
     (λ es is each once. inserted-fits (list_of q) x es (record { list = refl; tag = c.tag_of.ensures ∙ ap (λ n. n / 2 ^ 32 % 2 ^ 32) c.hash_of-hash.ensures })
     (sym (at-list q 0 c.list_of.result lists es opened.fits (omega (arith, h)) is) ∙ ap (λ l. lookup (bytes_eq q) l) opened.named ∙ none) each once))

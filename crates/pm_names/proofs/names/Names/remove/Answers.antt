@@ -24,7 +24,7 @@ invariant_of-self c =
     let h = c.list_of-k.ensures ∙ ap (λ n. n % 512) c.hash_of-hash.ensures in
     let lists = c.self.inside.row.lists in
     let m = list_of c.args.name.now in
-    fits-after c.remove.result c.remove.new.self c.self.inside.row _ c.remove.ensures.lists c.remove.ensures.err
+    fits-after c.remove.result c.remove.new.self.lists lists _ c.remove.ensures.lists c.remove.ensures.err
     (fits-edited (λ l. remove l c.in-Some.i) 0 c.list_of-k.result m lists (omega (arith, h)) c.self.invariant
     (λ es is each once. removed-fits m c.in-Some.i es each once))
     c.self.invariant

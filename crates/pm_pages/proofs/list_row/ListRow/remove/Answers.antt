@@ -1,45 +1,35 @@
-use Rattle.std.proofs.Common.{◌≡◌, ◌<◌, ◌∙◌, true, refl, ap, sym, length, remove, map, arith}
-use Rattle.std.proofs.lemmas.List.{length-map}
-use Rattle.pm_pages.specs.Listed.{items_of, is_own, owned, without_item, edited}
-use Rattle.pm_pages.proofs.Changed.{all-edited, length-edited, map-edited}
-use Rattle.pm_pages.proofs.Owning.{own_page_all, page-edited}
-use Rattle.pm_pages.proofs.InRow.{piece-map, lists-edited, piece-edited}
+use Rattle.std.proofs.Common.{◌≡◌, ◌<◌, ◌∙◌, ap, length, map, remove, arith}
+use Rattle.pm_pages.specs.Leaves.{Leaved, held}
+use Rattle.pm_pages.specs.Listed.{edited, list_at}
+use Rattle.pm_pages.specs.Paged.{Row}
+use Rattle.pm_pages.proofs.Leaves.{all-own-set, list-of, lists-set, own-leaf-of, own-page-of}
 use Rattle.pm_pages.proofs.list_row.ListRow.remove.Goals as goal
 
-pub returns-in_err-own_at-clause-sure : goal.returns-in_err-own_at-clause-sure
-returns-in_err-own_at-clause-sure g c = λ alone.
-    let old = c.self.inside.pages.items in
-    let there : c.args.k < length old = omega (arith, (rw (← c.self.view_is) at c.requires.list), length-map old items_of) in
-    let sure = c.in_err-own_at.ensures.own (own_page_all old c.args.k there (c.self.invariant (rw (← c.self.view_is) at alone))) in
-    absurd (grind (arith, sure))
+pub edit-requires : goal.edit-requires
+edit-requires g c = own-page-of c.self.inside.leaves.items c.self.inside.leaves.own c.args.k (rw (← c.self.view_is) at c.in_ok-own_at.ensures.ok)
 
-pub remove_at-gone-requires-clause-page : goal.remove_at-gone-requires-clause-page
-remove_at-gone-requires-clause-page g c =
-    let e = ap length c.in_ok-own_at.ensures.pages in
-    let l = length-edited owned c.args.k c.self.inside.pages.items in
-    omega (arith, e, l, (rw (← c.self.view_is) at c.requires.list), length-map c.self.inside.pages.items items_of)
+pub remove-gone-requires-clause-own : goal.remove-gone-requires-clause-own
+remove-gone-requires-clause-own g c =
+    own-leaf-of c.self.inside.leaves.items c.self.inside.leaves.own c.args.k c.edit.result.now (rw (← c.self.view_is) at c.in_ok-own_at.ensures.ok) c.edit.ensures.value
 
-pub remove_at-gone-requires-clause-place : goal.remove_at-gone-requires-clause-place
-remove_at-gone-requires-clause-place g c =
-    rw (c.in_ok-own_at.ensures.pages, piece-edited items_of owned (λ p. refl) c.args.k c.self.inside.pages.items, piece-map items_of c.self.inside.pages.items c.args.k)
-    (rw (← c.self.view_is) at c.requires.place)
+pub remove-gone-requires-clause-place : goal.remove-gone-requires-clause-place
+remove-gone-requires-clause-place g c =
+    let l = ap length (list-of c.self.inside.leaves.items c.args.k c.edit.result.now c.edit.ensures.value) in
+    let same = ap (λ (r : Row g.row.T.Denot). r.lists) c.self.view_is ∙ c.in_ok-own_at.ensures.lists in
+    let n = ap (λ ls. length (list_at ls c.args.k)) same in
+    omega (arith, l, n, c.requires.place)
 
-pub remove_at-gone-requires-clause-own : goal.remove_at-gone-requires-clause-own
-remove_at-gone-requires-clause-own g c =
-    let old = c.self.inside.pages.items in
-    let there : c.args.k < length old = omega (arith, (rw (← c.self.view_is) at c.requires.list), length-map old items_of) in
-    rw c.in_ok-own_at.ensures.pages (page-edited owned (λ p. refl) old c.args.k there)
-
-pub invariant_of-self-2 : goal.invariant_of-self-2
-invariant_of-self-2 g c = λ a.
-    rw (c.remove_at-gone.ensures.pages, c.in_ok-own_at.ensures.pages)
-    (all-edited is_own (without_item c.args.j) (λ p h. refl) c.args.k _
-    (all-edited is_own owned (λ p h. refl) c.args.k c.self.inside.pages.items (c.self.invariant a)))
+pub invariant_of-self : goal.invariant_of-self
+invariant_of-self g c = λ a.
+    let ls = c.self.inside.leaves.items in
+    let own = own-leaf-of ls c.self.inside.leaves.own c.args.k c.edit.result.now (rw (← c.self.view_is) at c.in_ok-own_at.ensures.ok) c.edit.ensures.value in (
+      (c.self.invariant a).0,
+      all-own-set ls c.args.k c.remove-gone.new.self (ap (λ (l : Leaved g.row.T.Denot). l.own) c.remove-gone.ensures.leaf ∙ own) (c.self.invariant a).1,
+    )
 
 pub returns-clause-lists : goal.returns-clause-lists
 returns-clause-lists g c =
-    let old = c.self.inside.pages.items in
-    rw (c.remove_at-gone.ensures.pages, ← c.self.view_is)
-    (lists-edited items_of (without_item c.args.j) (λ l. remove l c.args.j) (λ p. refl) c.args.k c.own_at.new.pages.items
-    ∙ ap (λ ls. edited (λ l. remove l c.args.j) c.args.k ls)
-    (ap (λ ps. map items_of ps) c.in_ok-own_at.ensures.pages ∙ map-edited items_of owned (λ p. refl) c.args.k old))
+    let ls = c.self.inside.leaves.items in
+    let same = ap (λ (r : Row g.row.T.Denot). r.lists) c.self.view_is ∙ c.in_ok-own_at.ensures.lists in
+    lists-set (λ l. remove l c.args.j) ls c.args.k c.edit.result.now c.remove-gone.new.self c.edit.ensures.value (ap held c.remove-gone.ensures.leaf)
+    ∙ ap (edited (λ l. remove l c.args.j) c.args.k) same

@@ -1,0 +1,11 @@
+-- The elements so far have rows.
+use Rattle.std.proofs.Common.{◌≡◌, ℕ, nat_lt, []}
+use Rattle.pm_reach.specs.Rows.{has}
+use Rattle.pm_reach.specs.Changes.{TellContainment}
+use Rattle.pm_reach.proofs.rows.Rows.unassigned.Given as goal
+
+abbrev pub invariant-loop-x : goal.invariant-loop-x
+invariant-loop-x l = record {
+  live : (y : ℕ) → has l.rows.rows y ≡ nat_lt y l.x;
+  rows : TellContainment [] l.rows.rows;
+}

@@ -1,0 +1,6 @@
+//! Tests of `pm_step` by its public calls. They stand in a crate of their own, since a crate with tests is proved once more with
+//! them, and `pm_step` takes long.
+#![tactic(auto)]
+
+#[cfg(test)]
+mod tests;
