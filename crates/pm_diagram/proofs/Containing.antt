@@ -1,18 +1,18 @@
 -- What containment becomes where an assignment or an element comes or goes.
-use Rattle.std.proofs.Common.{◌≡◌, ◌==◌, ℕ, List, [], ◌∷◌, true, false, refl, inl, inr, subst, eq-eqb}
+use Rattle.std.proofs.Common.{◌≡◌, ◌==◌, ◌∙◌, ℕ, List, [], ◌∷◌, true, false, refl, inl, inr, subst, eq-eqb, Contains}
 use Rattle.std.specs.Cmp.{both_ways}
 use Rattle.std.specs.List.{list_any}
-use Rattle.std.proofs.lemmas.Bool.{cases_eq, eqb-true, false_from_ne_true}
+use Rattle.std.proofs.lemmas.Bool.{cases_eq, eqb-true, false_from_ne_true, ne_eqb}
 use Rattle.pm_model.specs.Containment.{contained, Leads, IsContained}
 use Rattle.pm_model.specs.Effect.{with_assignment, is_pair, has_child}
 use Rattle.pm_model.specs.Formed.{Each, IsLive}
 use Rattle.pm_model.specs.declared.elements.Element.{Element}
-use Rattle.pm_model.proofs.ContainmentLaws.{contained-itself, contained-from_path, path-from_contained}
+use Rattle.pm_model.proofs.ContainmentLaws.{contained-cases, contained-from_path, contained-itself, contained-more, contained-pair, contained-trans, path-from_contained}
 use Rattle.pm_laws.proofs.Added.{added-has, has-added}
 use Rattle.pm_laws.proofs.Assigned.{within-without, without-within}
 use Rattle.pm_laws.proofs.Deleted.{left_pairs, leads-left, pairs-within}
 use Rattle.pm_laws.proofs.Items.{contains-cases, each-at}
-use Rattle.pm_laws.proofs.Pairs.{assigned-is, without}
+use Rattle.pm_laws.proofs.Pairs.{assigned-is, without, without-keeps}
 use Rattle.pm_laws.proofs.Shape.{IsWithin, contained-within}
 use Rattle.pm_diagram.specs.Drawn.{JoinsLive}
 
@@ -86,3 +86,29 @@ contained-left assigned x p q none other =
     let path : IsContained assigned p q = path-from_contained assigned p q up in
     contained-from_path (left_pairs x assigned) p path.0 q (leads-left x assigned none p path.0 q other path.1).0)
     (contained-within (left_pairs x assigned) assigned (pairs-within x assigned) p q)
+
+-- ---- an assignment that adds nothing
+
+-- what is contained in y may be assigned to it as well
+pub contained-again : (assigned : List (ℕ × ℕ)) (x y : ℕ) → contained assigned x y ≡ true → (p q : ℕ) →
+    contained ((x, y) ∷ assigned) p q ≡ contained assigned p q
+contained-again assigned x y up p q =
+    both_ways (contained ((x, y) ∷ assigned) p q) (contained assigned p q)
+    (λ h. elim (contained-cases (x, y) assigned p q h) [
+      | inl there ↦ there
+      | inr new ↦ contained-trans assigned p x q new.0 (contained-trans assigned x y q up new.1)
+    ])
+    (contained-more (x, y) assigned p q)
+
+-- it is beside the assignment where another container of x is, in which x and no cycle is
+pub contained-beside : (assigned : List (ℕ × ℕ)) (x y other : ℕ) → list_any (is_pair x y) assigned ≡ true → Contains assigned (x, other) → (other ≡ y → ⊥) →
+    contained assigned other y ≡ true → (contained assigned other x ≡ true → ⊥) → contained (without x y assigned) x y ≡ true
+contained-beside assigned x y other stands held apart up alone =
+    let less = without x y assigned in
+    let kept : Contains less (x, other) = without-keeps x y assigned (x, other) held (ne-pair x y other apart) in
+    elim (contained-cases (x, y) less other y (contained-without assigned x y stands other y ∙ up)) [
+      | inl there ↦ contained-trans less x other y (contained-pair less x other kept) there
+      | inr through ↦ absurd (alone (contained-within less assigned (without-within assigned x y) other x through.0))
+    ] where
+      ne-pair : (x y other : ℕ) → (other ≡ y → ⊥) → is_pair x y (x, other) ≡ false
+      ne-pair x y other apart = rw (eq-eqb x x refl, ne_eqb other y apart) refl

@@ -1,5 +1,5 @@
 -- A diagram stays drawn: one lemma for each change, where the rows have followed it.
-use Rattle.std.proofs.Common.{◌≡◌, ◌==◌, ◌||◌, ◌&&◌, ℕ, List, ◌∷◌, Option, Some, None, true, false, not, refl, sym, ◌∙◌, ◌<◌, inl, inr, is_some, eq-eqb}
+use Rattle.std.proofs.Common.{◌≡◌, ◌==◌, ◌||◌, ◌&&◌, ℕ, List, ◌∷◌, Option, Some, None, true, false, not, refl, sym, ◌∙◌, ◌<◌, inl, inr, is_some, eq-eqb, Contains}
 use Rattle.std.specs.Prelude.{IfSome}
 use Rattle.std.specs.List.{list_any}
 use Rattle.std.proofs.lemmas.Bool.{cases_eq, ne_eqb, eqb-false, false_from_ne_true, not-true, true≢false, and_parts}
@@ -9,7 +9,7 @@ use Rattle.pm_model.specs.Effect.{placed, with_pair, with_assignment, is_pair, i
 use Rattle.pm_model.specs.Formed.{Each, IsLive}
 use Rattle.pm_model.specs.Resolve.{unused}
 use Rattle.pm_model.specs.declared.elements.Element.{Element}
-use Rattle.pm_model.proofs.ContainmentLaws.{contained-itself}
+use Rattle.pm_model.proofs.ContainmentLaws.{contained-itself, contained-pair}
 use Rattle.pm_elements.proofs.Lists.{element_at-filtered}
 use Rattle.pm_laws.proofs.Added.{each-added}
 use Rattle.pm_laws.proofs.Deleted.{left, left_pairs, rising-filter}
@@ -17,6 +17,7 @@ use Rattle.pm_laws.proofs.Items.{each-to, each-at, each-from, each-filter, filte
 use Rattle.pm_laws.proofs.Numbers.{live-apart, rising-placed, live-placed, new-placed, placed-other}
 use Rattle.pm_laws.proofs.Pairs.{without}
 use Rattle.pm_reach.specs.Rows.{has, below, most}
+use Rattle.pm_reach.specs.Order.{IsOrder}
 use Rattle.pm_reach.specs.Changes.{TellContainment, Adds, Creates, Makes, Assigns, Deassigns, Removes, CanFollow}
 use Rattle.pm_reach.specs.declared.step.Step.TheVariants as step
 use Rattle.pm_reach.proofs.Bits.{eqb-turned}
@@ -24,7 +25,7 @@ use Rattle.pm_reach.proofs.Openings.{assigned_more, added_more}
 use Rattle.pm_reach.proofs.Orders.{contained-cons}
 use Rattle.pm_reach.proofs.Passing.{has_below}
 use Rattle.pm_diagram.specs.Drawn.{JoinsLive, Drawn}
-use Rattle.pm_diagram.proofs.Containing.{contained-added, contained-without, contained-fresh, contained-alone, contained-childless, contained-left}
+use Rattle.pm_diagram.proofs.Containing.{contained-added, contained-again, contained-beside, contained-without, contained-fresh, contained-alone, contained-childless, contained-left}
 
 -- what is told of one list of assignments is told of another with the same containment
 told-same : (assigned other : List (ℕ × ℕ)) (rows : List (List (Option (List ℕ)))) → ((p q : ℕ) → contained assigned p q ≡ contained other p q) →
@@ -136,6 +137,15 @@ module _ (es : List Element) (assigned : List (ℕ × ℕ)) (old : List (List (O
     rising = d.rising;
   }
 
+  -- one that adds nothing
+  pub drawn-again : (x y : ℕ) → IsLive es x → IsLive es y → contained assigned x y ≡ true → Drawn es (with_assignment (x, y) assigned) old
+  drawn-again x y x_live y_live up = record {
+    live = d.live;
+    told = told-same assigned (with_assignment (x, y) assigned) old (λ p q. sym (contained-added assigned x y p q ∙ contained-again assigned x y up p q)) d.told;
+    joined = each-added (x, y) (JoinsLive es) assigned d.joined (x_live, y_live);
+    rising = d.rising;
+  }
+
   -- ---- an assignment taken away
 
   -- the rows told it with the pair in front of those that are left
@@ -151,6 +161,24 @@ module _ (es : List Element) (assigned : List (ℕ × ℕ)) (old : List (List (O
     joined = each-filter (JoinsLive es) (λ pair. not (is_pair x y pair)) assigned d.joined;
     rising = d.rising;
   }
+
+  -- one that added nothing
+  pub drawn-beside : (x y : ℕ) → list_any (is_pair x y) assigned ≡ true → contained (without x y assigned) x y ≡ true → Drawn es (without x y assigned) old
+  drawn-beside x y stands up = record {
+    live = d.live;
+    told = told-same assigned (without x y assigned) old
+        (λ p q. sym (contained-without assigned x y stands p q) ∙ contained-again (without x y assigned) x y up p q) d.told;
+    joined = each-filter (JoinsLive es) (λ pair. not (is_pair x y pair)) assigned d.joined;
+    rising = d.rising;
+  }
+
+  -- another container of x, in which y contains it
+  pub inside-beside : (x y other : ℕ) → IsOrder old → IsLive es x → Contains assigned (x, other) → (other ≡ x → ⊥) → (other ≡ y → ⊥) → below old other y ≡ true →
+      list_any (is_pair x y) assigned ≡ true → contained (without x y assigned) x y ≡ true
+  inside-beside x y other order x_live held apart beside up stands =
+      let row = has_below old other y up in
+      contained-beside assigned x y other stands held beside (sym (d.told other y row) ∙ up)
+      (λ back. apart (order.alone other x (d.told other x row ∙ back) (told-at x other x_live ∙ contained-pair assigned x other held)))
 
   -- ---- an element taken out, to which nothing is assigned
 

@@ -2,8 +2,9 @@
 //! changed, which may still find no memory for itself; and then the rows follow, which can't fail. So
 //! all is done, or nothing.
 
-ghost use Rattle.std.specs.Prelude.{◌≡◌, ◌≢◌, ℕ, ◌<◌, ◌==◌, ◌*◌, ◌+◌, ◌/◌, false, None, OnOk, OnErr, IfOk, IfErr, IfSome, is_some, filter, not};
+ghost use Rattle.std.specs.Prelude.{◌≡◌, ◌≢◌, ℕ, ◌<◌, ◌==◌, ◌*◌, ◌+◌, ◌/◌, false, None, OnOk, OnErr, IfOk, IfErr, IfSome, is_some, filter, not, true};
 ghost use Rattle.std.specs.Int.{bit_at};
+ghost use Rattle.std.specs.List.{list_any};
 ghost use Rattle.pm_model.specs.Containment.{contained};
 ghost use Rattle.pm_model.specs.Effect.{max_elements, is_pair, is_from, placed, with_pair, with_assignment, create_checks, assign_checks, deassign_checks, IsCause};
 ghost use Rattle.pm_model.specs.Formed.{IsLive};
@@ -16,7 +17,7 @@ ghost use Rattle.pm_reach.specs.Rows.{has};
 ghost use Rattle.pm_reach.specs.Changes.{TellContainment};
 
 use pm_elements::{Elements, ElementsError};
-use pm_model::{ElementId, Kind, Memory, Name};
+use pm_model::{ElementId, Kind, Memory, Name, Parents};
 use pm_reach::{ReachRows, Step};
 use std::alloc::Global;
 use std::marker::Model;
@@ -112,6 +113,23 @@ impl Diagram {
         self.rows.may_hold(y, k)
     }
 
+    /// Whether x is contained in y beside an assignment of x to y, both live: another element that x is assigned to is. Then
+    /// that assignment adds nothing, and no row changes when it comes or goes.
+    fn is_inside_beside(&self, x: ElementId, y: ElementId) -> bool
+        requires x_live { IsLive self.now.elements x }
+        requires y_live { IsLive self.now.elements y }
+        ensures { result ≡ true → list_any (is_pair x y) self.now.assigned ≡ true → contained (filter (λ pair. not (is_pair x y pair)) self.now.assigned) x y ≡ true }
+    {
+        self.rows.ordered();
+        for i in 0..self.elements.count(x) {
+            let other = self.elements.parent(x, i);
+            if other != x && other != y && self.rows.contains(other, y) {
+                return true;
+            }
+        }
+        false
+    }
+
     /// Whether an element could be made in a container, or without one: `BadKinds`, `NameTaken`,
     /// `Full` of the elements, `Full` of the assignments, in this order. It never answers `Memory`.
     pub fn check_create(
@@ -170,7 +188,8 @@ impl Diagram {
         self.elements.check_assign(x, y, self.contains(y, x))
     }
 
-    /// Assigns x to y, both live. It is refused as `check_assign` says; `Memory` where there was none.
+    /// Assigns x to y, both live. It is refused as `check_assign` says; `Memory` where there was none. Where x is contained in y
+    /// already, rows stay as they are, and are counted as written.
     pub fn assign(&mut self, x: ElementId, y: ElementId) -> Result<(), ElementsError>
         requires x_live { IsLive self.old.elements x }
         requires y_live { IsLive self.old.elements y }
@@ -182,6 +201,12 @@ impl Diagram {
     {
         let closes = self.contains(y, x);
         self.elements.check_assign(x, y, closes)?;
+        if self.contains(x, y) {
+            let same = self.rows.inside(x)?;
+            self.elements.assign(x, y, closes)?;
+            self.rows.count(same);
+            return Ok(());
+        }
         self.rows.prepare(Step::Assign { x, y })?;
         self.elements.assign(x, y, closes)?;
         self.rows.follow_assign(x, y);
@@ -201,7 +226,8 @@ impl Diagram {
     }
 
     /// Takes the assignment of x to y away, both live. It is refused as `check_deassign` says; `Memory`
-    /// where there was none for the rows that are made anew.
+    /// where there was none for the rows that are made anew. Where another element that x is assigned to is contained in y,
+    /// rows stay as they are, and are counted as written.
     pub fn deassign(&mut self, x: ElementId, y: ElementId) -> Result<(), ElementsError>
         requires x_live { IsLive self.old.elements x }
         requires y_live { IsLive self.old.elements y }
@@ -211,6 +237,12 @@ impl Diagram {
         ensures err { OnErr result (self.new ≡ self.old) }
     {
         self.elements.check_deassign(x, y)?;
+        if self.is_inside_beside(x, y) {
+            let same = self.rows.inside(x)?;
+            self.elements.deassign(x, y)?;
+            self.rows.count(same);
+            return Ok(());
+        }
         self.rows.prepare(Step::Deassign { x, y })?;
         self.elements.deassign(x, y)?;
         self.rows.follow_deassign(x, y, &self.elements);

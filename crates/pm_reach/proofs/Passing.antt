@@ -15,7 +15,7 @@ has_below rows p q h = below-has (place_at rows p) q h
 
 -- ---- counts
 
-count-yes : (test : ℕ → Bool) (n : ℕ) → test n ≡ true → count_of test (n + 1) ≡ count_of test n + 1
+pub count-yes : (test : ℕ → Bool) (n : ℕ) → test n ≡ true → count_of test (n + 1) ≡ count_of test n + 1
 unfolding count_of
 count-yes test n h = rw (add-one n, h) (omega arith)
 
@@ -24,7 +24,7 @@ unfolding count_of
 count-no test n h = rw (add-one n, h) (omega arith)
 
 -- where none below n passes
-count-none : (test : ℕ → Bool) (n : ℕ) → ((k : ℕ) → k < n → test k ≡ false) → count_of test n ≡ 0
+pub count-none : (test : ℕ → Bool) (n : ℕ) → ((k : ℕ) → k < n → test k ≡ false) → count_of test n ≡ 0
 unfolding count_of
 count-none test zero h = refl
 count-none test (suc n) h = rw (h n (omega arith)) (omega (arith, count-none test n (λ k l. h k (omega arith))))
@@ -41,6 +41,12 @@ pub count-all : (test : ℕ → Bool) (n m : ℕ) → n ≤ m → ((k : ℕ) →
 count-all test n m l h =
     let e : m ≡ (m - n) + n = omega arith in
     rw e (count-past test n (m - n) (λ k f s. h k f (omega arith)))
+
+-- where two tests agree
+pub count_same : (test other : ℕ → Bool) (n : ℕ) → ((k : ℕ) → test k ≡ other k) → count_of test n ≡ count_of other n
+unfolding count_of
+count_same test other zero h = refl
+count_same test other (suc n) h = rw (h n, count_same test other n h) refl
 
 -- ---- passes
 

@@ -12,6 +12,11 @@ pub record Reached : Type 0 where
   pub written : ℕ
   pub ready : Option Step
 
+-- the rows, and the step that is ready
+pub record Readied : Type 0 where
+  pub rows : List (List (Option (List ℕ)))
+  pub ready : Option Step
+
 -- what a place has, where it has something
 abbrev pub option_at : {X : Type 0} → List (Option X) → ℕ → Option X
 option_at xs n = unwrap_or (slice_get xs n) None

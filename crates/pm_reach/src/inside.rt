@@ -4,7 +4,7 @@
 ghost use Rattle.std.specs.Prelude.{◌≡◌, ℕ, ◌<◌, ◌≤◌, ◌*◌, true, false, length, IfOk};
 ghost use Rattle.std.specs.Bool.{OnTrue};
 ghost use Rattle.pm_reach.specs.Words.{in_row};
-ghost use Rattle.pm_reach.specs.Rows.{below, most};
+ghost use Rattle.pm_reach.specs.Rows.{below, count_of, most};
 ghost use Rattle.pm_reach.specs.Passes.{AreContainers, IsRising, Spans};
 ghost use Rattle.pm_reach.specs.Inside.{IsInside};
 ghost use Rattle.pm_reach.specs.Unions.{AreUnions};
@@ -38,6 +38,23 @@ impl Inside {
         ensures there { result < self.now.span.high → in_row self.now.row.items result ≡ true }
     {
         words::next(self.row.as_slice(), z, self.span.high)
+    }
+
+    /// How many there are.
+    pub(crate) fn count(&self) -> u64
+        requires order { self.now.span.low ≤ self.now.span.high }
+        requires high { self.now.span.high ≤ most }
+        requires from { (z : ℕ) → in_row self.now.row.items z ≡ true → self.now.span.low ≤ z }
+        requires to { (z : ℕ) → in_row self.now.row.items z ≡ true → z < self.now.span.high }
+        ensures { result ≡ count_of (in_row self.now.row.items) most }
+    {
+        let mut count = 0;
+        let mut z = self.next(self.span.low);
+        while z < self.span.high {
+            count += 1;
+            z = self.next(z + 1);
+        }
+        count
     }
 }
 

@@ -29,6 +29,7 @@ use std::sync::Arc;
 #[derive(Drop)]
 pub struct ReachRows {
     held: Held<Rows>,
+    written: u64,
 }
 
 impl Model for ReachRows {
@@ -38,7 +39,7 @@ impl Model for ReachRows {
 
     ghost Value = { Reached };
 
-    ghost view = { λ r. value_of r.held };
+    ghost view = { λ r. record { rows = (value_of r.held).rows; written = r.written; ready = (value_of r.held).ready } };
 
     ghost invariant = { λ r. IsUnready r.held };
 }
@@ -47,7 +48,6 @@ impl Model for ReachRows {
 fn own(held: &mut Held<Rows>) -> Result<(), Memory>
     requires { IsUnready held.old }
     ensures rows { (value_of held.new).rows ≡ (value_of held.old).rows }
-    ensures written { (value_of held.new).written ≡ (value_of held.old).written }
     ensures own { OnOk result (is_owned held.new ≡ true) }
     ensures err { OnErr result (held.new ≡ held.old) }
     ensures unready { OnErr result ((value_of held.new).ready ≡ None) }
@@ -63,7 +63,6 @@ fn own(held: &mut Held<Rows>) -> Result<(), Memory>
 fn share(held: &mut Held<Rows>) -> Result<(), Memory>
     requires { IsUnready held.old }
     ensures rows { (value_of held.new).rows ≡ (value_of held.old).rows }
-    ensures written { (value_of held.new).written ≡ (value_of held.old).written }
     ensures ready { (value_of held.new).ready ≡ None }
     ensures unready { IsUnready held.new }
 {
@@ -86,6 +85,7 @@ impl ReachRows {
     {
         Ok(ReachRows {
             held: Held::Own(Rows::opening(alloc)?),
+            written: 0,
         })
     }
 
@@ -94,9 +94,11 @@ impl ReachRows {
         requires { size ≤ most }
         ensures live { IfOk result (λ r. (x : ℕ) → has r.rows x ≡ nat_lt x size) }
         ensures rows { IfOk result (λ r. TellContainment [] r.rows) }
+        ensures written { IfOk result (λ r. r.written ≡ size) }
     {
         Ok(ReachRows {
             held: Held::Own(Rows::unassigned(alloc, size)?),
+            written: u64::from(size),
         })
     }
 
@@ -153,7 +155,9 @@ impl ReachRows {
         ensures written { self.new.written ≡ counted self.old.written (if is_some into then 2 else 1) }
         ensures ready { self.new.ready ≡ None }
     {
+        let written = if into.is_some() { 2 } else { 1 };
         self.held.own_mut().follow_make(x, into);
+        self.count(written);
     }
 
     /// Follows that x was assigned to y.
@@ -164,7 +168,8 @@ impl ReachRows {
         ensures written { self.new.written ≡ counted self.old.written (inside self.old.rows x) }
         ensures ready { self.new.ready ≡ None }
     {
-        self.held.own_mut().follow_assign(x, y);
+        let written = self.held.own_mut().follow_assign(x, y);
+        self.count(written);
     }
 
     /// Follows that x isn't assigned to y any more. The parents are those after this.
@@ -178,7 +183,8 @@ impl ReachRows {
         ensures written { self.new.written ≡ counted self.old.written (inside self.old.rows x) }
         ensures ready { self.new.ready ≡ None }
     {
-        self.held.own_mut().follow_deassign(x, y, parents);
+        let written = self.held.own_mut().follow_deassign(x, y, parents);
+        self.count(written);
     }
 
     /// Follows that x was deleted.
@@ -192,6 +198,23 @@ impl ReachRows {
         self.held.own_mut().follow_remove(x);
     }
 
+    /// How many elements are contained in x, itself among them.
+    pub fn inside(&self, x: ElementId) -> Result<u64, Memory>
+        ensures { IfOk result (λ n. n ≡ inside self.now.rows x) }
+    {
+        read(&self.held).inside(x)
+    }
+
+    /// Counts so many rows as written: those of all that is contained in an element of which an assignment comes or goes that
+    /// leaves containment as it is, and so each row.
+    pub fn count(&mut self, more: u64)
+        ensures rows { self.new.rows ≡ self.old.rows }
+        ensures written { self.new.written ≡ counted self.old.written more }
+        ensures ready { self.new.ready ≡ self.old.ready }
+    {
+        self.written = self.written.saturating_add(more);
+    }
+
     /// Prepares and follows that x is made.
     pub fn on_add(&mut self, x: ElementId) -> Result<(), Memory>
         requires none { has self.old.rows x ≡ false }
@@ -201,7 +224,9 @@ impl ReachRows {
         ensures err { OnErr result ((self.new.rows ≡ self.old.rows) × (self.new.written ≡ self.old.written)) }
     {
         own(&mut self.held)?;
-        self.held.own_mut().on_add(x)
+        self.held.own_mut().on_add(x)?;
+        self.count(1);
+        Ok(())
     }
 
     /// Prepares and follows that x is assigned to y.
@@ -214,7 +239,9 @@ impl ReachRows {
         ensures err { OnErr result ((self.new.rows ≡ self.old.rows) × (self.new.written ≡ self.old.written)) }
     {
         own(&mut self.held)?;
-        self.held.own_mut().on_assign(x, y)
+        let written = self.held.own_mut().on_assign(x, y)?;
+        self.count(written);
+        Ok(())
     }
 
     /// Prepares and follows that x isn't assigned to y any more. The parents are those after this.
@@ -232,7 +259,9 @@ impl ReachRows {
         ensures err { OnErr result ((self.new.rows ≡ self.old.rows) × (self.new.written ≡ self.old.written)) }
     {
         own(&mut self.held)?;
-        self.held.own_mut().on_deassign(x, y, parents)
+        let written = self.held.own_mut().on_deassign(x, y, parents)?;
+        self.count(written);
+        Ok(())
     }
 
     /// Prepares and follows that x is deleted.
@@ -260,7 +289,7 @@ impl ReachRows {
     pub fn written(&self) -> u64
         ensures { result ≡ self.now.written }
     {
-        read(&self.held).written()
+        self.written
     }
 
     /// Lets copies made from now on share all that is there: such a copy is a pointer. It takes memory for
@@ -285,6 +314,9 @@ impl ReachRows {
             Held::Own(rows) => Held::Own(rows.copy()?),
             Held::Shared(shared) => Held::Shared(Arc::try_clone(shared)?),
         };
-        Ok(ReachRows { held })
+        Ok(ReachRows {
+            held,
+            written: self.written,
+        })
     }
 }

@@ -1,15 +1,16 @@
-//! The rows, with the number of those that were written.
+//! The rows, and the step that is ready to be followed.
 
-ghost use Rattle.std.specs.Prelude.{◌≡◌, ℕ, ◌<◌, ◌≤◌, ◌∷◌, [], true, false, Some, None, is_some, nat_lt, if◌then◌else◌, IsTrue, IsSome, IfOk, OnOk, OnErr, ◌+◌, ◌*◌, ◌/◌, ◌==◌};
+ghost use Rattle.std.specs.Prelude.{◌≡◌, ℕ, ◌<◌, ◌≤◌, ◌∷◌, [], true, false, Some, None, is_some, nat_lt, IsTrue, IsSome, IfOk, OnOk, OnErr, ◌+◌, ◌*◌, ◌/◌, ◌==◌};
 ghost use Rattle.std.specs.Int.{bit_at};
 ghost use Rattle.pm_model.specs.State.{element_at, opening_elements, opening_assigned};
-ghost use Rattle.pm_reach.specs.Rows.{has, below, inside, most, counted};
+ghost use Rattle.pm_reach.specs.Rows.{has, below, inside, most};
 ghost use Rattle.pm_reach.specs.Order.{IsOrder};
 ghost use Rattle.pm_reach.specs.Changes.{TellContainment, CanFollow, Adds, Makes, Assigns, Deassigns, Removes};
 ghost use Rattle.pm_reach.specs.declared.step.Step.{Step};
 
 use crate::changes::{assign, deassign, make, remove};
 use crate::containers::Containers;
+use crate::inside::inside_of;
 use crate::ready::{Ready, make_ready, ready_deassign};
 use crate::step::Step;
 use crate::table::RowTable;
@@ -29,22 +30,21 @@ pub(crate) struct Rows {
     table: RowTable,
     /// Row k has all that the rows of the numbers from 64 k on, 64 of them, have, and maybe more.
     unions: RowTable,
-    written: u64,
     ready: Option<Ready>,
     containers: Containers,
 }
 
 impl Model for Rows {
     ghost use Rattle.std.specs.Prelude.{option_map};
-    ghost use Rattle.pm_reach.specs.Rows.{Reached};
+    ghost use Rattle.pm_reach.specs.Rows.{Readied};
     ghost use Rattle.pm_reach.specs.Order.{IsOrder};
     ghost use Rattle.pm_reach.specs.Ready.{step_of, IsPrepared};
     ghost use Rattle.pm_reach.specs.Passes.{AreContainers};
     ghost use Rattle.pm_reach.specs.Unions.{AreUnions};
 
-    ghost Value = { Reached };
+    ghost Value = { Readied };
 
-    ghost view = { λ a. record { rows = a.table.rows; written = a.written; ready = option_map step_of a.ready } };
+    ghost view = { λ a. record { rows = a.table.rows; ready = option_map step_of a.ready } };
 
     ghost invariant = { λ a. IsOrder a.table.rows × IsPrepared a.table a.unions.rows a.ready × AreContainers a.table.rows a.containers × AreUnions a.unions.rows a.table.rows };
 }
@@ -63,12 +63,10 @@ impl Rows {
     pub(crate) fn opening(alloc: Global) -> Result<Rows, Memory>
         ensures live { IfOk result (λ r. (x : ℕ) → has r.rows x ≡ is_some (element_at opening_elements x)) }
         ensures rows { IfOk result (λ r. TellContainment opening_assigned r.rows) }
-        ensures written { IfOk result (λ r. r.written ≡ 0) }
     {
         let mut rows = Rows::unassigned(alloc, 3)?;
         rows.on_assign(ElementId(2), ElementId(1))?;
         rows.on_assign(ElementId(1), ElementId(0))?;
-        rows.written = 0;
         Ok(rows)
     }
 
@@ -93,7 +91,6 @@ impl Rows {
         Ok(Rows {
             table: RowTable::new(alloc),
             unions: RowTable::new(alloc),
-            written: 0,
             ready: None,
             containers,
         })
@@ -137,7 +134,6 @@ impl Rows {
     pub(crate) fn prepare(&mut self, step: Step) -> Result<(), Memory>
         requires possible { CanFollow self.old.rows step }
         ensures rows { self.new.rows ≡ self.old.rows }
-        ensures written { self.new.written ≡ self.old.written }
         ensures ready { OnOk result (self.new.ready ≡ Some step) }
         ensures err { OnErr result (self.new.ready ≡ None) }
     {
@@ -151,52 +147,53 @@ impl Rows {
     pub(crate) fn follow_make(&mut self, x: ElementId, into: Option<ElementId>)
         requires { self.old.ready ≡ Some (Step.Make x into) }
         ensures rows { Makes x into self.old.rows self.new.rows }
-        ensures written { self.new.written ≡ counted self.old.written (if is_some into then 2 else 1) }
         ensures ready { self.new.ready ≡ None }
     {
         let container = &into;
-        let more = if container.is_some() { 2 } else { 1 };
         self.table.bounded();
         let ready = take(&mut self.ready);
         make(&mut self.table, ready, x, *container);
         self.containers.put_given(container);
-        self.written = self.written.saturating_add(more);
     }
 
-    /// Follows that x was assigned to y.
-    pub(crate) fn follow_assign(&mut self, x: ElementId, y: ElementId)
+    /// Follows that x was assigned to y. Answers how many rows were written.
+    pub(crate) fn follow_assign(&mut self, x: ElementId, y: ElementId) -> u64
         requires { self.old.ready ≡ Some (Step.Assign x y) }
         ensures rows { Assigns x y self.old.rows self.new.rows }
-        ensures written { self.new.written ≡ counted self.old.written (inside self.old.rows x) }
+        ensures count { result ≡ inside self.old.rows x }
         ensures ready { self.new.ready ≡ None }
     {
         self.table.bounded();
         let ready = take(&mut self.ready);
-        let more = assign(&mut self.table, ready, x, y);
+        let written = assign(&mut self.table, ready, x, y);
         self.containers.put(y.number());
-        self.written = self.written.saturating_add(more);
+        written
     }
 
-    /// Follows that x isn't assigned to y any more. The parents are those after this.
-    pub(crate) fn follow_deassign<P: Parents>(&mut self, x: ElementId, y: ElementId, parents: &P)
+    /// Follows that x isn't assigned to y any more. The parents are those after this. Answers how many rows
+    /// were written.
+    pub(crate) fn follow_deassign<P: Parents>(
+        &mut self,
+        x: ElementId,
+        y: ElementId,
+        parents: &P,
+    ) -> u64
         requires ready { self.old.ready ≡ Some (Step.Deassign x y) }
         requires live { (z : ℕ) → has self.old.rows z ≡ true → IsTrue (P.live parents.now z) }
         requires rows { (z : ℕ) → IsTrue (P.live parents.now z) → has self.old.rows z ≡ true }
         requires was { TellContainment ((x, y) ∷ P.assigned parents.now) self.old.rows }
         ensures rows { Deassigns x (P.assigned parents.now) self.old.rows self.new.rows }
-        ensures written { self.new.written ≡ counted self.old.written (inside self.old.rows x) }
+        ensures count { result ≡ inside self.old.rows x }
         ensures ready { self.new.ready ≡ None }
     {
         let ready = take(&mut self.ready);
-        let more = deassign(&mut self.table, ready, x, y, parents);
-        self.written = self.written.saturating_add(more);
+        deassign(&mut self.table, ready, x, y, parents)
     }
 
     /// Follows that x was deleted.
     pub(crate) fn follow_remove(&mut self, x: ElementId)
         requires { self.old.ready ≡ Some (Step.Remove x) }
         ensures rows { Removes x self.old.rows self.new.rows }
-        ensures written { self.new.written ≡ self.old.written }
         ensures ready { self.new.ready ≡ None }
     {
         let ready = take(&mut self.ready);
@@ -208,47 +205,44 @@ impl Rows {
         requires none { has self.old.rows x ≡ false }
         requires few { x < most }
         ensures rows { OnOk result (Adds x self.old.rows self.new.rows) }
-        ensures written { OnOk result (self.new.written ≡ counted self.old.written 1) }
-        ensures err { OnErr result ((self.new.rows ≡ self.old.rows) × (self.new.written ≡ self.old.written)) }
+        ensures err { OnErr result (self.new.rows ≡ self.old.rows) }
     {
         self.prepare(Step::Make { x, into: None })?;
         self.follow_make(x, None);
         Ok(())
     }
 
-    /// Prepares and follows that x is assigned to y.
-    pub(crate) fn on_assign(&mut self, x: ElementId, y: ElementId) -> Result<(), Memory>
+    /// Prepares and follows that x is assigned to y. Answers how many rows were written.
+    pub(crate) fn on_assign(&mut self, x: ElementId, y: ElementId) -> Result<u64, Memory>
         requires x { has self.old.rows x ≡ true }
         requires y { has self.old.rows y ≡ true }
         requires apart { below self.old.rows y x ≡ false }
         ensures rows { OnOk result (Assigns x y self.old.rows self.new.rows) }
-        ensures written { OnOk result (self.new.written ≡ counted self.old.written (inside self.old.rows x)) }
-        ensures err { OnErr result ((self.new.rows ≡ self.old.rows) × (self.new.written ≡ self.old.written)) }
+        ensures count { IfOk result (λ written. written ≡ inside self.old.rows x) }
+        ensures err { OnErr result (self.new.rows ≡ self.old.rows) }
     {
         self.prepare(Step::Assign { x, y })?;
-        self.follow_assign(x, y);
-        Ok(())
+        Ok(self.follow_assign(x, y))
     }
 
-    /// Prepares and follows that x isn't assigned to y any more. The parents are those after this.
+    /// Prepares and follows that x isn't assigned to y any more. The parents are those after this. Answers
+    /// how many rows were written.
     pub(crate) fn on_deassign<P: Parents>(
         &mut self,
         x: ElementId,
         y: ElementId,
         parents: &P,
-    ) -> Result<(), Memory>
+    ) -> Result<u64, Memory>
         requires live { (z : ℕ) → has self.old.rows z ≡ true → IsTrue (P.live parents.now z) }
         requires rows { (z : ℕ) → IsTrue (P.live parents.now z) → has self.old.rows z ≡ true }
         requires was { TellContainment ((x, y) ∷ P.assigned parents.now) self.old.rows }
         ensures rows { OnOk result (Deassigns x (P.assigned parents.now) self.old.rows self.new.rows) }
-        ensures written { OnOk result (self.new.written ≡ counted self.old.written (inside self.old.rows x)) }
-        ensures err { OnErr result ((self.new.rows ≡ self.old.rows) × (self.new.written ≡ self.old.written)) }
+        ensures count { IfOk result (λ written. written ≡ inside self.old.rows x) }
+        ensures err { OnErr result (self.new.rows ≡ self.old.rows) }
     {
         self.ready = None;
         let ready = ready_deassign(&mut self.table, &mut self.unions, &self.containers, x, y)?;
-        let more = deassign(&mut self.table, ready, x, y, parents);
-        self.written = self.written.saturating_add(more);
-        Ok(())
+        Ok(deassign(&mut self.table, ready, x, y, parents))
     }
 
     /// Prepares and follows that x is deleted.
@@ -256,8 +250,7 @@ impl Rows {
         requires x { has self.old.rows x ≡ true }
         requires empty { (p : ℕ) → below self.old.rows p x ≡ true → p ≡ x }
         ensures rows { OnOk result (Removes x self.old.rows self.new.rows) }
-        ensures written { OnOk result (self.new.written ≡ self.old.written) }
-        ensures err { OnErr result ((self.new.rows ≡ self.old.rows) × (self.new.written ≡ self.old.written)) }
+        ensures err { OnErr result (self.new.rows ≡ self.old.rows) }
     {
         self.prepare(Step::Remove { x })?;
         self.follow_remove(x);
@@ -276,13 +269,13 @@ impl Rows {
         self.table.has_row(x.number())
     }
 
-    /// How many rows were written since the opening, up to 2^64 - 1: those that making elements, assigning
-    /// and taking assignments away write, one after another. So an element that is made in a container
-    /// counts two, though its row is written once.
-    pub(crate) fn written(&self) -> u64
-        ensures { result ≡ self.now.written }
+    /// How many elements are contained in x. It takes memory for a row of them.
+    #[tactic(auto, using(crate::proofs::Passing::count_same))]
+    pub(crate) fn inside(&self, x: ElementId) -> Result<u64, Memory>
+        ensures { IfOk result (λ n. n ≡ inside self.now.rows x) }
     {
-        self.written
+        let found = inside_of(&self.table, &self.unions, &self.containers, x)?;
+        Ok(found.count())
     }
 
     /// Lets copies made from now on share all that is there: such a copy is one of pointers. It takes
@@ -290,7 +283,6 @@ impl Rows {
     /// nothing is ready any more.
     pub(crate) fn share(&mut self) -> Result<(), Memory>
         ensures rows { self.new.rows ≡ self.old.rows }
-        ensures written { self.new.written ≡ self.old.written }
         ensures ready { self.new.ready ≡ None }
     {
         self.ready = None;
@@ -298,11 +290,9 @@ impl Rows {
         self.unions.share()
     }
 
-    /// The same rows once more, with the same number of those written, and nothing ready. Neither sees
-    /// what the other writes from then on.
+    /// The same rows once more, and nothing ready. Neither sees what the other writes from then on.
     pub(crate) fn copy(&self) -> Result<Rows, Memory>
         ensures rows { IfOk result (λ same. same.rows ≡ self.now.rows) }
-        ensures written { IfOk result (λ same. same.written ≡ self.now.written) }
         ensures ready { IfOk result (λ same. same.ready ≡ None) }
     {
         let table = self.table.copy()?;
@@ -311,7 +301,6 @@ impl Rows {
         Ok(Rows {
             table,
             unions,
-            written: self.written,
             ready: None,
             containers,
         })

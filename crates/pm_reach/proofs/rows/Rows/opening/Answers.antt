@@ -1,6 +1,5 @@
 -- The two assignments, one after the other.
-use Rattle.std.proofs.Common.{ap, ◌∙◌, [], ◌∷◌}
-use Rattle.pm_reach.specs.Rows.{Reached}
+use Rattle.std.proofs.Common.{◌∙◌, [], ◌∷◌}
 use Rattle.pm_reach.proofs.Openings.{assigned_more, none-assigned, one-assigned}
 use Rattle.pm_reach.proofs.rows.Rows.opening.Goals as goal
 
@@ -27,5 +26,4 @@ on_assign-requires-2-clause-apart c =
 pub returns-clause-rows : goal.returns-clause-rows
 returns-clause-rows c =
     let one = assigned_more [] c.in_ok-rows.rows.rows c.on_assign.new.self.rows 2 1 (c.in_ok-rows.ensures.live 1) c.in_ok-rows.ensures.rows c.in_ok-on_assign.ensures.rows in
-    rw (ap (λ (v : Reached). v.rows) c.rows-2.view_is)
-    (assigned_more ((2, 1) ∷ []) c.on_assign.new.self.rows c.on_assign-2.new.self.rows 1 0 (c.in_ok-on_assign.ensures.rows.live 0 ∙ c.in_ok-rows.ensures.live 0) one c.in_ok-on_assign-2.ensures.rows)
+    assigned_more ((2, 1) ∷ []) c.on_assign.new.self.rows c.on_assign-2.new.self.rows 1 0 (c.in_ok-on_assign.ensures.rows.live 0 ∙ c.in_ok-rows.ensures.live 0) one c.in_ok-on_assign-2.ensures.rows
