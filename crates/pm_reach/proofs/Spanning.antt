@@ -1,10 +1,11 @@
 -- Among which numbers all is that is contained in an element, and what changes leave of the set of those that contain
 -- something else.
-use Rattle.std.proofs.Common.{◌≡◌, ◌≤◌, ◌<◌, ◌+◌, ℕ, true, false, not, List, ◌∷◌, Option, Some, None, IfSome, sym, ◌∙◌, ◌||◌, ◌&&◌, ◌==◌, inl, inr, arith}
+use Rattle.std.proofs.Common.{◌≡◌, ◌≤◌, ◌<◌, ◌+◌, ℕ, Bool, true, false, not, List, ◌∷◌, Option, Some, None, IfSome, Result, Ok, Err, OnOk, OnErr, refl, sym, ap, ◌∙◌, ◌||◌, ◌&&◌, ◌==◌, inl, inr, arith}
 use Rattle.std.proofs.lemmas.Bool.{true≢false, eqb-true, eq-eqb, or_parts}
 use Rattle.pm_reach.specs.Words.{in_row}
 use Rattle.pm_reach.specs.Rows.{has, below, most}
 use Rattle.pm_reach.specs.Passes.{AreContainers, Spans, is_given}
+use Rattle.pm_reach.specs.Ready.{Holds}
 use Rattle.pm_reach.specs.Changes.{TellContainment, CanFollow, Adds, Creates, Makes, Assigns, Deassigns, Removes}
 use Rattle.pm_reach.specs.declared.step.Step.TheVariants as step
 use Rattle.pm_reach.proofs.Orders.{or-cases, and-both, less-contained}
@@ -54,36 +55,46 @@ keep-adds old new containers x a are = λ p q h leaf.
       | inr r ↦ let b = and-both (p == x) (q == x) r in eqb-true p x b.0 ∙ sym (eqb-true q x b.1)
     ]
 
--- y is one of them from now on
-module _ (old new : List (List (Option (List ℕ)))) (before after : List ℕ) (y : ℕ)
-    (more : (q : ℕ) → in_row after q ≡ (q == y || in_row before q)) (are : AreContainers old before) where
-  parts : (q : ℕ) → in_row after q ≡ false → ((q == y) ≡ false) × (in_row before q ≡ false)
-  parts q leaf = or_parts (q == y) (in_row before q) (sym (more q) ∙ leaf)
+-- y is one of them already
+module _ (old new : List (List (Option (List ℕ)))) (containers : List ℕ) (y : ℕ) (there : in_row containers y ≡ true)
+    (are : AreContainers old containers) where
+  not-above : (q : ℕ) → in_row containers q ≡ false → below old y q ≡ true → ⊥
+  not-above q leaf h = true≢false (sym there ∙ ap (in_row containers) (are y q h leaf) ∙ leaf)
 
-  not-above : (q : ℕ) → in_row after q ≡ false → below old y q ≡ true → ⊥
-  not-above q leaf h = let p = parts q leaf in true≢false (sym (eq-eqb q y (sym (are y q h p.1))) ∙ p.0)
-
-  pub keep-creates : (x : ℕ) → Creates x y old new → AreContainers new after
+  pub keep-creates : (x : ℕ) → Creates x y old new → AreContainers new containers
   keep-creates x c = λ p q h leaf.
       elim (or-cases (below old p q) (p == x && (q == x || below old y q)) (sym (c.related p q) ∙ h)) [
-        | inl l ↦ are p q l (parts q leaf).1
+        | inl l ↦ are p q l leaf
         | inr r ↦ let b = and-both (p == x) (q == x || below old y q) r in elim (or-cases (q == x) (below old y q) b.1) [
           | inl e ↦ eqb-true p x b.0 ∙ sym (eqb-true q x e)
           | inr l ↦ absurd (not-above q leaf l)
         ]
       ]
 
-  pub keep-assigns : (x : ℕ) → Assigns x y old new → AreContainers new after
+  pub keep-assigns : (x : ℕ) → Assigns x y old new → AreContainers new containers
   keep-assigns x c = λ p q h leaf.
       elim (or-cases (below old p q) (below old p x && below old y q) (sym (c.related p q) ∙ h)) [
-        | inl l ↦ are p q l (parts q leaf).1
+        | inl l ↦ are p q l leaf
         | inr r ↦ absurd (not-above q leaf (and-both (below old p x) (below old y q) r).1)
       ]
 
-pub keep-makes : (old new : List (List (Option (List ℕ)))) (before after : List ℕ) (x : ℕ) (into : Option ℕ) →
-    ((q : ℕ) → in_row after q ≡ (is_given into q || in_row before q)) → AreContainers old before → Makes x into old new → AreContainers new after
-keep-makes old new before after x None more are m = λ p q h leaf. keep-adds old new before x m are p q h (sym (more q) ∙ leaf)
-keep-makes old new before after x (Some y) more are m = keep-creates old new before after y more are x m
+pub keep-makes : (old new : List (List (Option (List ℕ)))) (containers : List ℕ) (x : ℕ) (into : Option ℕ) → Holds containers (step.Make x into) →
+    AreContainers old containers → Makes x into old new → AreContainers new containers
+keep-makes old new containers x None there are m = keep-adds old new containers x m are
+keep-makes old new containers x (Some y) there are m = keep-creates old new containers y there are x m
+
+-- ---- numbers that are put into the set
+
+module _ {A E : Type 0} (given : ℕ → Bool) (before after : List ℕ) where
+  pub keep-put : (rows : List (List (Option (List ℕ)))) (result : Result A E) → OnOk result ((q : ℕ) → in_row after q ≡ (given q || in_row before q)) →
+      OnErr result (after ≡ before) → AreContainers rows before → AreContainers rows after
+  keep-put rows (Ok r) ok err are = λ p y h leaf. are p y h (or_parts (given y) (in_row before y) (sym (ok y) ∙ leaf)).1
+  keep-put rows (Err e) ok err are = rw err are
+
+pub holds_given : (before after : List ℕ) (x : ℕ) (into : Option ℕ) → ((q : ℕ) → in_row after q ≡ (is_given into q || in_row before q)) →
+    Holds after (step.Make x into)
+holds_given before after x None put = tt
+holds_given before after x (Some y) put = put y ∙ rw (eq-eqb y y refl) refl
 
 pub container-below : (rows : List (List (Option (List ℕ)))) (x : ℕ) (into : Option ℕ) → CanFollow rows (step.Make x into) →
     ((y : ℕ) → has rows y ≡ true → y < most) → IfSome into (λ y. y < most)

@@ -48,7 +48,16 @@ IsTaken t (ready.Assign inside y other) = AssignReady t inside y other.items
 IsTaken t (ready.Deassign inside y marks queue row) = DeassignReady t inside marks.items queue.items row.items
 IsTaken t (ready.Remove x) = IsOpen t x
 
--- where a step is ready, rows can follow it, the memory for it is there, and the unions have what it brings
-abbrev pub IsPrepared : Table → List (List (Option (List ℕ))) → Option Ready → Type 0
-IsPrepared t unions None = ⊤
-IsPrepared t unions (Some r) = CanFollow t.rows (step_of r) × IsTaken t r × Cover unions t.rows (step_of r)
+-- the set of containers has already what the step assigns to
+abbrev pub Holds : List ℕ → Step → Type 0
+Holds containers (step.Make x None) = ⊤
+Holds containers (step.Make x (Some y)) = in_row containers y ≡ true
+Holds containers (step.Assign x y) = in_row containers y ≡ true
+Holds containers (step.Deassign x y) = ⊤
+Holds containers (step.Remove x) = ⊤
+
+-- where a step is ready, rows can follow it, the memory for it is there, and the unions and the set of containers
+-- have what it brings
+abbrev pub IsPrepared : Table → List (List (Option (List ℕ))) → List ℕ → Option Ready → Type 0
+IsPrepared t unions containers None = ⊤
+IsPrepared t unions containers (Some r) = CanFollow t.rows (step_of r) × IsTaken t r × Cover unions t.rows (step_of r) × Holds containers (step_of r)

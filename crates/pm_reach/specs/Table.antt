@@ -2,11 +2,14 @@
 use Rattle.std.specs.Prelude.{◌≡◌, ◌≢◌, ◌≤◌, ◌<◌, ◌+◌, ◌/◌, ◌%◌, ℕ, Bool, true, false, List, [], length, map, Option, Some, None, option_map, slice_index, Vec, vec_capacity, IsSomeAnd}
 use Rattle.std.specs.Arc.{arc_value}
 use Rattle.std.specs.declared.alloc.Global.{Global}
+use Rattle.std.specs.declared.sync.Arc.{Arc}
 use Rattle.pm_reach.specs.Rows.{page_at, place_at, has}
 use Rattle.pm_reach.specs.declared.held.Held.{Held}
 use Rattle.pm_reach.specs.declared.held.Held.TheVariants.{Own, Shared}
 use Rattle.pm_reach.specs.declared.page.Row.{Row}
 use Rattle.pm_reach.specs.declared.page.Page.{Page}
+use Rattle.pm_reach.specs.declared.shared.HeldPage.{HeldPage}
+use Rattle.pm_reach.specs.declared.shared.HeldPage.TheVariants as page
 use Rattle.pm_reach.specs.declared.table.RowTable.TheInside.{Inside}
 
 pub record Table : Type 0 where
@@ -44,29 +47,42 @@ shown rows = map (option_map words_of) rows
 abbrev pub spare : List (Option (Held Row)) → List (Option ℕ)
 spare rows = map room_at rows
 
-abbrev pub page_rows : Held Page → List (Option (List ℕ))
-page_rows h = shown (value_of h).rows.items
+-- the words of a row that pages share
+abbrev pub words_behind : Arc Row Global → List ℕ
+words_behind a = words_in (arc_value a)
 
-abbrev pub page_rooms : Held Page → List (Option ℕ)
-page_rooms (Own p) = spare p.rows.items
-page_rooms (Shared a) = []
+-- the rows of a page that tables share
+abbrev pub shown_shared : List (Option (Arc Row Global)) → List (Option (List ℕ))
+shown_shared rows = map (option_map words_behind) rows
 
-abbrev pub page_places : Held Page → ℕ
-page_places (Own p) = vec_capacity p.rows
-page_places (Shared a) = 0
+abbrev pub page_rows : HeldPage → List (Option (List ℕ))
+page_rows page.Empty = []
+page_rows (page.Own p) = shown p.rows.items
+page_rows (page.Shared a) = shown_shared (arc_value a).rows.items
 
-abbrev pub is_own : Option (Held Page) → Bool
-is_own (Some (Own p)) = true
-is_own (Some (Shared a)) = false
+abbrev pub page_rooms : HeldPage → List (Option ℕ)
+page_rooms page.Empty = []
+page_rooms (page.Own p) = spare p.rows.items
+page_rooms (page.Shared a) = []
+
+abbrev pub page_places : HeldPage → ℕ
+page_places page.Empty = 0
+page_places (page.Own p) = vec_capacity p.rows
+page_places (page.Shared a) = 0
+
+abbrev pub is_own : Option HeldPage → Bool
+is_own (Some page.Empty) = false
+is_own (Some (page.Own p)) = true
+is_own (Some (page.Shared a)) = false
 is_own None = false
 
 -- a page was put at k, which is behind the others
-pub record IsPushed (k : ℕ) (pushed : Page) (old new : List (Held Page)) : Type 0 where
+pub record IsPushed (k : ℕ) (pushed : Page) (old new : List HeldPage) : Type 0 where
   pub long : length new ≡ k + 1
   pub page : page_at (map page_rows new) k ≡ shown pushed.rows.items
   pub others : (m : ℕ) → m ≢ k → page_at (map page_rows new) m ≡ page_at (map page_rows old) m
 
-abbrev pub tabled : Vec (Held Page) Global → Table
+abbrev pub tabled : Vec HeldPage Global → Table
 tabled pages = record {
   rows = map page_rows pages.items;
   rooms = map page_rooms pages.items;

@@ -1,7 +1,7 @@
 //! The elements in which something else is contained, or once was. In any other there is nothing but
 //! itself, so that a change of it writes its own row, and no other has to be looked at.
 
-ghost use Rattle.std.specs.Prelude.{◌≡◌, ℕ, ◌<◌, ◌==◌, ◌||◌, false, length, IfOk, IfSome};
+ghost use Rattle.std.specs.Prelude.{◌≡◌, ℕ, ◌<◌, ◌==◌, ◌||◌, false, length, IfOk, IfSome, OnOk, OnErr};
 ghost use Rattle.pm_reach.specs.Words.{in_row};
 ghost use Rattle.pm_reach.specs.Rows.{most};
 ghost use Rattle.pm_reach.specs.Passes.{AreContainers, Spans, is_given};
@@ -11,31 +11,35 @@ use crate::words;
 use pm_model::{ElementId, Memory};
 use std::alloc::Global;
 use std::marker::Model;
+use std::sync::Arc;
 
 /// How many words it takes to tell of each number whether it is one of them.
 const WORDS: usize = 256;
 
-/// A set of numbers below 16,384. Contracts see it as a row.
+/// A set of numbers below 16,384, which copies share until a number is put into it. Contracts see it as a row.
 #[derive(Drop)]
 pub(crate) struct Containers {
-    words: Vec<u64>,
+    words: Arc<Vec<u64>>,
 }
 
 impl Model for Containers {
     ghost use Rattle.std.specs.Prelude.{ℕ, List, ◌≡◌, length};
+    ghost use Rattle.std.specs.Arc.{arc_value};
 
     ghost Value = { List ℕ };
 
-    ghost view = { λ c. c.words.items };
+    ghost view = { λ c. (arc_value c.words).items };
 
-    ghost invariant = { λ c. length c.words.items ≡ 256 };
+    ghost invariant = { λ c. length (arc_value c.words).items ≡ 256 };
 }
 
 impl Containers {
     /// The set without numbers.
     pub(crate) fn new(alloc: Global) -> Result<Containers, Memory> {
         let words = vec![in alloc; 0; WORDS]?;
-        Ok(Containers { words })
+        Ok(Containers {
+            words: Arc::new(alloc, words)?,
+        })
     }
 
     /// Whether it has y.
@@ -45,21 +49,39 @@ impl Containers {
         words::has(self.words.as_slice(), y)
     }
 
-    /// Puts y into it.
-    pub(crate) fn put(&mut self, y: u32)
+    /// Puts y into it. It takes memory where it hasn't y, and copies share it. On Memory it is as before.
+    pub(crate) fn put(&mut self, y: u32) -> Result<(), Memory>
         requires { y < most }
-        ensures { (q : ℕ) → in_row self.new q ≡ (q == y || in_row self.old q) }
+        ensures ok { OnOk result ((q : ℕ) → in_row self.new q ≡ (q == y || in_row self.old q)) }
+        ensures err { OnErr result (self.new ≡ self.old) }
     {
-        words::set_bit(self.words.as_mut_slice(), y);
+        if self.has(y) {
+            return Ok(());
+        }
+        self.put_new(y)
     }
 
-    /// Puts the container into it, where there is one.
-    pub(crate) fn put_given(&mut self, container: &Option<ElementId>)
-        requires { IfSome container.now (λ y. y < most) }
-        ensures { (q : ℕ) → in_row self.new q ≡ (is_given container.now q || in_row self.old q) }
+    fn put_new(&mut self, y: u32) -> Result<(), Memory>
+        requires { y < most }
+        ensures ok { OnOk result ((q : ℕ) → in_row self.new q ≡ (q == y || in_row self.old q)) }
+        ensures err { OnErr result (self.new ≡ self.old) }
     {
-        if let Some(y) = container {
-            self.put(y.number());
+        let alloc = *self.words.allocator();
+        let mut words = Vec::from_slice(alloc, self.words.as_slice())?;
+        words::set_bit(words.as_mut_slice(), y);
+        self.words = Arc::new(alloc, words)?;
+        Ok(())
+    }
+
+    /// Puts the container into it, where there is one. On Memory it is as before.
+    pub(crate) fn put_given(&mut self, container: Option<ElementId>) -> Result<(), Memory>
+        requires { IfSome container (λ y. y < most) }
+        ensures ok { OnOk result ((q : ℕ) → in_row self.new q ≡ (is_given container q || in_row self.old q)) }
+        ensures err { OnErr result (self.new ≡ self.old) }
+    {
+        match container {
+            Some(y) => self.put(y.number()),
+            None => Ok(()),
         }
     }
 
@@ -67,8 +89,9 @@ impl Containers {
     pub(crate) fn copy(&self) -> Result<Containers, Memory>
         ensures { IfOk result (λ same. same ≡ self.now) }
     {
-        let words = Vec::from_slice(*self.words.allocator(), self.words.as_slice())?;
-        Ok(Containers { words })
+        Ok(Containers {
+            words: Arc::try_clone(&self.words)?,
+        })
     }
 }
 

@@ -9,17 +9,17 @@ ghost use Rattle.pm_reach.specs.Table.{value_of, words_in, words_of, room_at, sh
 ghost use Rattle.pm_reach.specs.declared.held.Held.{Held};
 ghost use Rattle.pm_reach.specs.declared.page.Row.{Row};
 
-use crate::held::{Held, read, shared};
+use crate::held::{Held, read};
+use crate::owned::Owned;
 use crate::words;
 use pm_model::Memory;
 use std::alloc::Global;
-use std::cmp::min;
 use std::sync::Arc;
 
 /// A row of bits.
 #[derive(Drop)]
 pub(crate) struct Row {
-    words: Vec<u64>,
+    pub(crate) words: Vec<u64>,
 }
 
 /// The rows of 64 numbers.
@@ -36,31 +36,6 @@ pub(crate) fn find_row(rows: &[Option<Held<Row>>], j: usize) -> Option<&[u64]>
     match rows.get(j) {
         Some(Some(row)) => Some(read(row).words.as_slice()),
         _ => None,
-    }
-}
-
-/// Puts the numbers of page k whose rows have x into the row.
-pub(crate) fn mark_rows(rows: &[Option<Held<Row>>], k: u32, x: u32, into: &mut [u64])
-    requires few { k < most }
-    requires wide { k < length into.old }
-    ensures here { (q : ℕ) → q / 64 ≡ k → in_row into.new q ≡ (in_row into.old q || row_has (option_at (shown rows.now) (q % 64)) x) }
-    ensures others { (q : ℕ) → q / 64 ≢ k → in_row into.new q ≡ in_row into.old q }
-    ensures long { length into.new ≡ length into.old }
-{
-    for j in 0..min(rows.len(), 64) {
-        if row_at_has(rows, j, x) {
-            words::set_bit(into, 64 * k + j as u32);
-        }
-    }
-}
-
-/// Whether there is a row at the place, and x is in it.
-fn row_at_has(rows: &[Option<Held<Row>>], j: usize, x: u32) -> bool
-    ensures { result ≡ row_has (option_at (shown rows.now) j) x }
-{
-    match find_row(rows, j) {
-        Some(words) => words::has(words, x),
-        None => false,
     }
 }
 
@@ -103,7 +78,7 @@ fn reserve(words: &mut Vec<u64>, n: usize) -> Result<(), Memory>
     Ok(())
 }
 
-fn copy_row(alloc: Global, row: &Row) -> Result<Row, Memory>
+pub(crate) fn copy_row(alloc: Global, row: &Row) -> Result<Row, Memory>
     ensures { IfOk result (λ same. words_in same ≡ words_in row.now) }
 {
     let words = Vec::from_slice(alloc, row.words.as_slice())?;
@@ -219,7 +194,7 @@ pub(crate) fn place_row(rows: &mut Vec<Option<Held<Row>>>, j: usize, words: Vec<
 }
 
 /// A page with a row at a place, and no other.
-pub(crate) fn page_with(alloc: Global, j: usize, words: Vec<u64>) -> Result<Page, Memory>
+pub(crate) fn page_with(alloc: Global, j: usize, words: Vec<u64>) -> Result<Owned<Page>, Memory>
     requires { j < 64 }
     ensures row { IfOk result (λ page. option_at (shown page.rows.items) j ≡ Some words.items) }
     ensures alone { IfOk result (λ page. (i : ℕ) → i ≢ j → option_at page.rows.items i ≡ None) }
@@ -227,7 +202,7 @@ pub(crate) fn page_with(alloc: Global, j: usize, words: Vec<u64>) -> Result<Page
     let mut rows = Vec::new(alloc);
     reserve_place(&mut rows, j)?;
     place_row(&mut rows, j, words);
-    Ok(Page { rows })
+    Owned::new(alloc, Page { rows })
 }
 
 /// Takes the row at a place away.
@@ -269,36 +244,4 @@ pub(crate) fn copy_rows(
         same.push(copy_place(alloc, place)?)?;
     }
     Ok(same)
-}
-
-/// Lets the row at a place be shared.
-fn share_row(rows: &mut Vec<Option<Held<Row>>>, j: usize) -> Result<(), Memory>
-    requires { IsSome (option_at rows.old.items j) }
-    ensures long { vec_len rows.new ≡ vec_len rows.old }
-    ensures rows { shown rows.new.items ≡ shown rows.old.items }
-{
-    let alloc = *rows.allocator();
-    let held = take_row(rows, j);
-    match shared(alloc, held) {
-        Ok(same) => {
-            put_row(rows, j, same);
-            Ok(())
-        }
-        Err(same) => {
-            put_row(rows, j, same);
-            Err(Memory)
-        }
-    }
-}
-
-/// Lets each row be shared.
-pub(crate) fn share_rows(rows: &mut Vec<Option<Held<Row>>>) -> Result<(), Memory>
-    ensures { shown rows.new.items ≡ shown rows.old.items }
-{
-    for j in 0..rows.len() {
-        if rows[j].is_some() {
-            share_row(rows, j)?;
-        }
-    }
-    Ok(())
 }

@@ -9,7 +9,7 @@ ghost use Rattle.pm_reach.specs.NewRows.{made_below};
 ghost use Rattle.pm_reach.specs.Changes.{CanFollow};
 ghost use Rattle.pm_reach.specs.Passes.{AreContainers, IsRising};
 ghost use Rattle.pm_reach.specs.Inside.{IsInside};
-ghost use Rattle.pm_reach.specs.Ready.{step_of, IsTaken};
+ghost use Rattle.pm_reach.specs.Ready.{step_of, IsTaken, Holds};
 ghost use Rattle.pm_reach.specs.Unions.{AreUnions, Cover};
 ghost use Rattle.pm_reach.specs.declared.step.Step.{Step};
 
@@ -53,25 +53,27 @@ pub(crate) enum Ready {
     },
 }
 
-/// Makes a step ready to be followed. What the step brings is put into the unions at once: they may
-/// have more than the rows.
+/// Makes a step ready to be followed. What the step brings is put into the unions and the set of containers
+/// at once: they may have more than the rows tell.
 pub(crate) fn make_ready(
     table: &mut RowTable,
     unions: &mut RowTable,
-    containers: &Containers,
+    containers: &mut Containers,
     step: Step,
 ) -> Result<Ready, Memory>
     requires possible { CanFollow table.old.rows step }
-    requires containers { AreContainers table.old.rows containers.now }
+    requires containers { AreContainers table.old.rows containers.old }
     requires unions { AreUnions unions.old.rows table.old.rows }
     ensures rows { table.new.rows ≡ table.old.rows }
     ensures unions { AreUnions unions.new.rows table.old.rows }
     ensures step { IfOk result (λ ready. step_of ready ≡ step) }
     ensures taken { IfOk result (λ ready. IsTaken table.new ready) }
     ensures covered { OnOk result (Cover unions.new.rows table.old.rows step) }
+    ensures containers { AreContainers table.old.rows containers.new }
+    ensures held { OnOk result (Holds containers.new step) }
 {
     match step {
-        Step::Make { x, into } => ready_make(table, unions, x, into),
+        Step::Make { x, into } => ready_make(table, unions, containers, x, into),
         Step::Assign { x, y } => ready_assign(table, unions, containers, x, y),
         Step::Deassign { x, y } => ready_deassign(table, unions, containers, x, y),
         Step::Remove { x } => ready_remove(table, x),
@@ -92,17 +94,23 @@ fn row_of(table: &RowTable, x: u32, into: &Option<ElementId>) -> Result<Vec<u64>
 fn ready_make(
     table: &mut RowTable,
     unions: &mut RowTable,
+    containers: &mut Containers,
     x: ElementId,
     into: Option<ElementId>,
 ) -> Result<Ready, Memory>
     requires possible { CanFollow table.old.rows (Step.Make x into) }
+    requires containers { AreContainers table.old.rows containers.old }
     requires unions { AreUnions unions.old.rows table.old.rows }
     ensures rows { table.new.rows ≡ table.old.rows }
     ensures unions { AreUnions unions.new.rows table.old.rows }
     ensures step { IfOk result (λ ready. step_of ready ≡ Step.Make x into) }
     ensures taken { IfOk result (λ ready. IsTaken table.new ready) }
     ensures covered { OnOk result (Cover unions.new.rows table.old.rows (Step.Make x into)) }
+    ensures containers { AreContainers table.old.rows containers.new }
+    ensures held { OnOk result (Holds containers.new (Step.Make x into)) }
 {
+    table.bounded();
+    containers.put_given(into)?;
     let words = row_of(table, x.number(), &into)?;
     cover(unions, x.number(), words.as_slice())?;
     let row = table.ready_new(x.number(), words)?;
@@ -112,18 +120,23 @@ fn ready_make(
 fn ready_assign(
     table: &mut RowTable,
     unions: &mut RowTable,
-    containers: &Containers,
+    containers: &mut Containers,
     x: ElementId,
     y: ElementId,
 ) -> Result<Ready, Memory>
-    requires containers { AreContainers table.old.rows containers.now }
+    requires possible { CanFollow table.old.rows (Step.Assign x y) }
+    requires containers { AreContainers table.old.rows containers.old }
     requires unions { AreUnions unions.old.rows table.old.rows }
     ensures rows { table.new.rows ≡ table.old.rows }
     ensures unions { AreUnions unions.new.rows table.old.rows }
     ensures step { IfOk result (λ ready. step_of ready ≡ Step.Assign x y) }
     ensures taken { IfOk result (λ ready. IsTaken table.new ready) }
     ensures covered { OnOk result (Cover unions.new.rows table.old.rows (Step.Assign x y)) }
+    ensures containers { AreContainers table.old.rows containers.new }
+    ensures held { OnOk result (Holds containers.new (Step.Assign x y)) }
 {
+    table.bounded();
+    containers.put(y.number())?;
     let other = Vec::from_slice(table.alloc(), table.words(y.number()))?;
     let inside = inside_of(table, unions, containers, x)?;
     ready_all(table, unions, &inside, other.as_slice())?;

@@ -46,7 +46,7 @@ impl Model for Rows {
 
     ghost view = { λ a. record { rows = a.table.rows; ready = option_map step_of a.ready } };
 
-    ghost invariant = { λ a. IsOrder a.table.rows × IsPrepared a.table a.unions.rows a.ready × AreContainers a.table.rows a.containers × AreUnions a.unions.rows a.table.rows };
+    ghost invariant = { λ a. IsOrder a.table.rows × IsPrepared a.table a.unions.rows a.containers a.ready × AreContainers a.table.rows a.containers × AreUnions a.unions.rows a.table.rows };
 }
 
 /// Takes out what is ready.
@@ -138,7 +138,12 @@ impl Rows {
         ensures err { OnErr result (self.new.ready ≡ None) }
     {
         self.ready = None;
-        let ready = make_ready(&mut self.table, &mut self.unions, &self.containers, step)?;
+        let ready = make_ready(
+            &mut self.table,
+            &mut self.unions,
+            &mut self.containers,
+            step,
+        )?;
         self.ready = Some(ready);
         Ok(())
     }
@@ -149,11 +154,8 @@ impl Rows {
         ensures rows { Makes x into self.old.rows self.new.rows }
         ensures ready { self.new.ready ≡ None }
     {
-        let container = &into;
-        self.table.bounded();
         let ready = take(&mut self.ready);
-        make(&mut self.table, ready, x, *container);
-        self.containers.put_given(container);
+        make(&mut self.table, ready, x, into);
     }
 
     /// Follows that x was assigned to y. Answers how many rows were written.
@@ -163,11 +165,8 @@ impl Rows {
         ensures count { result ≡ inside self.old.rows x }
         ensures ready { self.new.ready ≡ None }
     {
-        self.table.bounded();
         let ready = take(&mut self.ready);
-        let written = assign(&mut self.table, ready, x, y);
-        self.containers.put(y.number());
-        written
+        assign(&mut self.table, ready, x, y)
     }
 
     /// Follows that x isn't assigned to y any more. The parents are those after this. Answers how many rows

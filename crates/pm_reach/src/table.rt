@@ -7,14 +7,14 @@ ghost use Rattle.pm_reach.specs.Words.{in_row};
 ghost use Rattle.pm_reach.specs.Rows.{place_at, has, below, most};
 ghost use Rattle.pm_reach.specs.Table.{shown, page_rows, tabled, is_own, IsPushed, IsReady, IsOpen, StaysReady, Writes};
 ghost use Rattle.pm_reach.specs.NewRows.{new_words, Fits};
-ghost use Rattle.pm_reach.specs.declared.held.Held.{Held};
+ghost use Rattle.pm_reach.specs.declared.shared.HeldPage.{HeldPage};
 ghost use Rattle.pm_reach.specs.declared.page.Page.{Page};
 
-use crate::held::{Held, read, shared};
+use crate::owned::Owned;
 use crate::page::{
-    Page, clear_row, copy_rows, find_row, join_row, mark_rows, overwrite_row, page_with, place_row,
-    ready_row, reserve_place, share_rows,
+    Page, clear_row, join_row, overwrite_row, page_with, place_row, ready_row, reserve_place,
 };
+use crate::shared::{HeldPage, copy_of, find_in, mark_rows, own_page_of, shared_of};
 use crate::words;
 use pm_model::Memory;
 use std::alloc::Global;
@@ -28,13 +28,13 @@ pub(crate) enum NewRow {
     /// Its words, where there is a page for it.
     Within(Vec<u64>),
     /// A page with this row alone, which goes behind the others.
-    Beyond(Page),
+    Beyond(Owned<Page>),
 }
 
 /// The rows, by number. Each page, and each row, is the table's own, or shared with copies of it.
 #[derive(Drop)]
 pub(crate) struct RowTable {
-    pages: Vec<Held<Page>>,
+    pages: Vec<HeldPage>,
 }
 
 impl Model for RowTable {
@@ -52,17 +52,17 @@ impl Model for RowTable {
 
 /// The words of the row of a number, where it has one.
 #[tactic(auto, using(crate::proofs::Pages::place_in))]
-fn find(pages: &[Held<Page>], x: u32) -> Option<&[u64]>
+fn find(pages: &[HeldPage], x: u32) -> Option<&[u64]>
     ensures { option_copied result ≡ place_at (map page_rows pages.now) x }
 {
     match pages.get(x as usize / 64) {
-        Some(page) => find_row(read(page).rows.as_slice(), x as usize % 64),
+        Some(page) => find_in(page, x as usize % 64),
         None => None,
     }
 }
 
 /// Puts the numbers of page k whose rows have x into the row.
-fn mark_page(pages: &[Held<Page>], k: u32, x: u32, into: &mut [u64])
+fn mark_page(pages: &[HeldPage], k: u32, x: u32, into: &mut [u64])
     requires few { k < most }
     requires wide { k < length into.old }
     ensures here { (q : ℕ) → q / 64 ≡ k → in_row into.new q ≡ (in_row into.old q || below (map page_rows pages.now) q x) }
@@ -70,118 +70,85 @@ fn mark_page(pages: &[Held<Page>], k: u32, x: u32, into: &mut [u64])
     ensures long { length into.new ≡ length into.old }
 {
     if let Some(page) = pages.get(k as usize) {
-        mark_rows(read(page).rows.as_slice(), k, x, into);
-    }
-}
-
-/// Whether a page is the table's own.
-fn is_own(page: &Held<Page>) -> bool
-    ensures { result ≡ is_own (Some page.now) }
-{
-    match page {
-        Held::Own(_) => true,
-        Held::Shared(_) => false,
+        mark_rows(page, k, x, into);
     }
 }
 
 /// Takes a page out, to be put back.
 #[tactic(auto, using(crate::proofs::Tables::set_set))]
-fn take_held(pages: &mut Vec<Held<Page>>, k: usize) -> Held<Page>
+fn take_held(pages: &mut Vec<HeldPage>, k: usize) -> HeldPage
     requires { k < vec_len pages.old }
     ensures page { slice_get pages.old.items k ≡ Some result }
-    ensures pages { (v : Held Page) → slice_set pages.new.items k v ≡ slice_set pages.old.items k v }
+    ensures pages { (v : HeldPage) → slice_set pages.new.items k v ≡ slice_set pages.old.items k v }
     ensures long { vec_len pages.new ≡ vec_len pages.old }
 {
-    let alloc = *pages.allocator();
-    replace(
-        &mut pages[k],
-        Held::Own(Page {
-            rows: Vec::new(alloc),
-        }),
-    )
+    replace(&mut pages[k], HeldPage::Empty)
 }
 
 /// Puts a page at a place.
-fn put_page(pages: &mut Vec<Held<Page>>, k: usize, page: Held<Page>)
+fn put_page(pages: &mut Vec<HeldPage>, k: usize, page: HeldPage)
     requires { k < vec_len pages.old }
     ensures { pages.new.items ≡ slice_set pages.old.items k page }
 {
     pages[k] = page;
 }
 
-fn copy_of(alloc: Global, page: &Page) -> Result<Page, Memory>
-    ensures { IfOk result (λ same. shown same.rows.items ≡ shown page.now.rows.items) }
+/// Whether a page is the table's own.
+fn is_own(page: &HeldPage) -> bool
+    ensures { result ≡ is_own (Some page.now) }
 {
-    let rows = copy_rows(alloc, page.rows.as_slice())?;
-    Ok(Page { rows })
+    matches!(page, HeldPage::Own(_))
 }
 
-/// A page that no other table has, with the same rows.
-fn own(alloc: Global, page: Held<Page>) -> Result<Page, Held<Page>>
-    ensures ok { IfOk result (λ same. shown same.rows.items ≡ page_rows page) }
-    ensures own { (p : Page) → page ≡ Held.Own p → IfOk result (λ same. same ≡ p) }
-    ensures err { IfErr result (λ same. same ≡ page) }
+/// A page of one's own with the same rows.
+fn own_of(alloc: Global, page: &HeldPage) -> Result<Owned<Page>, Memory>
+    ensures { IfOk result (λ same. shown same.rows.items ≡ page_rows page.now) }
 {
     match page {
-        Held::Own(page) => Ok(page),
-        Held::Shared(shared) => unshared(alloc, shared),
-    }
-}
-
-fn unshared(alloc: Global, shared: Arc<Page>) -> Result<Page, Held<Page>>
-    ensures ok { IfOk result (λ same. shown same.rows.items ≡ page_rows (Held.Shared shared)) }
-    ensures err { IfErr result (λ same. same ≡ Held.Shared shared) }
-{
-    match Arc::try_unwrap(shared) {
-        Ok(page) => Ok(page),
-        Err(shared) => match copy_of(alloc, &shared) {
-            Ok(page) => Ok(page),
-            Err(_) => Err(Held::Shared(shared)),
-        },
+        HeldPage::Empty => Owned::new(
+            alloc,
+            Page {
+                rows: Vec::new(alloc),
+            },
+        ),
+        HeldPage::Own(page) => copy_of(alloc, page),
+        HeldPage::Shared(shared) => own_page_of(alloc, shared),
     }
 }
 
 /// Makes a page the table's own.
-fn own_page(pages: &mut Vec<Held<Page>>, k: usize) -> Result<(), Memory>
+fn own_page(pages: &mut Vec<HeldPage>, k: usize) -> Result<(), Memory>
     requires { k < vec_len pages.old }
     ensures long { vec_len pages.new ≡ vec_len pages.old }
     ensures rows { map page_rows pages.new.items ≡ map page_rows pages.old.items }
     ensures own { OnOk result (is_own (slice_get pages.new.items k) ≡ true) }
     ensures stays { StaysReady (tabled pages.old) (tabled pages.new) }
 {
-    if is_own(&pages[k]) {
+    let held = &pages[k];
+    if is_own(held) {
         return Ok(());
     }
-    let alloc = *pages.allocator();
-    let held = take_held(pages, k);
-    match own(alloc, held) {
-        Ok(page) => {
-            put_page(pages, k, Held::Own(page));
-            Ok(())
-        }
-        Err(same) => {
-            put_page(pages, k, same);
-            Err(Memory)
-        }
-    }
+    let page = own_of(*pages.allocator(), held)?;
+    put_page(pages, k, HeldPage::Own(page));
+    Ok(())
 }
 
 /// Takes a page out that is the table's own, to be put back.
 #[tactic(auto, using(crate::proofs::Pages::is_own_some))]
-fn take_page(pages: &mut Vec<Held<Page>>, k: usize) -> Page
+fn take_page(pages: &mut Vec<HeldPage>, k: usize) -> Owned<Page>
     requires { is_own (slice_get pages.old.items k) ≡ true }
-    ensures page { slice_get pages.old.items k ≡ Some (Held.Own result) }
-    ensures pages { (v : Held Page) → slice_set pages.new.items k v ≡ slice_set pages.old.items k v }
+    ensures page { slice_get pages.old.items k ≡ Some (HeldPage.Own result) }
+    ensures pages { (v : HeldPage) → slice_set pages.new.items k v ≡ slice_set pages.old.items k v }
     ensures long { vec_len pages.new ≡ vec_len pages.old }
 {
     match take_held(pages, k) {
-        Held::Own(page) => page,
-        Held::Shared(_) => unreachable!(),
+        HeldPage::Own(page) => page,
+        _ => unreachable!(),
     }
 }
 
 /// Makes the row of x the table's own, with room for so many words.
-fn ready_at(pages: &mut Vec<Held<Page>>, x: u32, n: usize) -> Result<(), Memory>
+fn ready_at(pages: &mut Vec<HeldPage>, x: u32, n: usize) -> Result<(), Memory>
     requires { has (map page_rows pages.old.items) x ≡ true }
     ensures long { vec_len pages.new ≡ vec_len pages.old }
     ensures rows { map page_rows pages.new.items ≡ map page_rows pages.old.items }
@@ -191,26 +158,26 @@ fn ready_at(pages: &mut Vec<Held<Page>>, x: u32, n: usize) -> Result<(), Memory>
     let k = x as usize / 64;
     own_page(pages, k)?;
     match &mut pages[k] {
-        Held::Own(page) => ready_row(&mut page.rows, x as usize % 64, n),
-        Held::Shared(_) => unreachable!(),
+        HeldPage::Own(page) => ready_row(&mut page.get_mut().rows, x as usize % 64, n),
+        _ => unreachable!(),
     }
 }
 
 /// Puts what another row has into the row of x.
-fn join_at(pages: &mut Vec<Held<Page>>, x: u32, other: &[u64])
+fn join_at(pages: &mut Vec<HeldPage>, x: u32, other: &[u64])
     requires { IsReady (tabled pages.old) x (length other.now) }
     ensures long { vec_len pages.new ≡ vec_len pages.old }
     ensures row { (q : ℕ) → below (map page_rows pages.new.items) x q ≡ (below (map page_rows pages.old.items) x q || in_row other.now q) }
     ensures writes { Writes x (tabled pages.old) (tabled pages.new) }
 {
     match &mut pages[x as usize / 64] {
-        Held::Own(page) => join_row(&mut page.rows, x as usize % 64, other),
-        Held::Shared(_) => unreachable!(),
+        HeldPage::Own(page) => join_row(&mut page.get_mut().rows, x as usize % 64, other),
+        _ => unreachable!(),
     }
 }
 
 /// Lets the row of x have what another row has, which it has already, and nothing else.
-fn overwrite_at(pages: &mut Vec<Held<Page>>, x: u32, other: &[u64])
+fn overwrite_at(pages: &mut Vec<HeldPage>, x: u32, other: &[u64])
     requires ready { IsReady (tabled pages.old) x 0 }
     requires less { (q : ℕ) → in_row other.now q ≡ true → below (map page_rows pages.old.items) x q ≡ true }
     ensures long { vec_len pages.new ≡ vec_len pages.old }
@@ -218,13 +185,13 @@ fn overwrite_at(pages: &mut Vec<Held<Page>>, x: u32, other: &[u64])
     ensures writes { Writes x (tabled pages.old) (tabled pages.new) }
 {
     match &mut pages[x as usize / 64] {
-        Held::Own(page) => overwrite_row(&mut page.rows, x as usize % 64, other),
-        Held::Shared(_) => unreachable!(),
+        HeldPage::Own(page) => overwrite_row(&mut page.get_mut().rows, x as usize % 64, other),
+        _ => unreachable!(),
     }
 }
 
 /// Makes the page of x the table's own, with a place for the row of x.
-fn open_at(pages: &mut Vec<Held<Page>>, x: u32) -> Result<(), Memory>
+fn open_at(pages: &mut Vec<HeldPage>, x: u32) -> Result<(), Memory>
     requires { x / 64 < vec_len pages.old }
     ensures long { vec_len pages.new ≡ vec_len pages.old }
     ensures rows { map page_rows pages.new.items ≡ map page_rows pages.old.items }
@@ -233,13 +200,13 @@ fn open_at(pages: &mut Vec<Held<Page>>, x: u32) -> Result<(), Memory>
     let k = x as usize / 64;
     own_page(pages, k)?;
     let mut page = take_page(pages, k);
-    let result = reserve_place(&mut page.rows, x as usize % 64);
-    put_page(pages, k, Held::Own(page));
+    let result = reserve_place(&mut page.get_mut().rows, x as usize % 64);
+    put_page(pages, k, HeldPage::Own(page));
     result
 }
 
 /// Makes room for a page at a place behind the others.
-fn reserve_page(pages: &mut Vec<Held<Page>>, k: usize) -> Result<(), Memory>
+fn reserve_page(pages: &mut Vec<HeldPage>, k: usize) -> Result<(), Memory>
     requires few { k < most }
     requires behind { vec_len pages.old ≤ k }
     ensures same { pages.new.items ≡ pages.old.items }
@@ -251,7 +218,7 @@ fn reserve_page(pages: &mut Vec<Held<Page>>, k: usize) -> Result<(), Memory>
 }
 
 /// Makes a row for x, which the table can be given without memory.
-fn ready_new_at(pages: &mut Vec<Held<Page>>, x: u32, words: Vec<u64>) -> Result<NewRow, Memory>
+fn ready_new_at(pages: &mut Vec<HeldPage>, x: u32, words: Vec<u64>) -> Result<NewRow, Memory>
     requires { x < most }
     ensures long { vec_len pages.new ≡ vec_len pages.old }
     ensures rows { map page_rows pages.new.items ≡ map page_rows pages.old.items }
@@ -269,7 +236,7 @@ fn ready_new_at(pages: &mut Vec<Held<Page>>, x: u32, words: Vec<u64>) -> Result<
 }
 
 /// Gives x a row, in a page that is there.
-fn put_within(pages: &mut Vec<Held<Page>>, x: u32, words: Vec<u64>)
+fn put_within(pages: &mut Vec<HeldPage>, x: u32, words: Vec<u64>)
     requires { IsOpen (tabled pages.old) x }
     ensures long { vec_len pages.new ≡ vec_len pages.old }
     ensures row { place_at (map page_rows pages.new.items) x ≡ Some words.items }
@@ -277,28 +244,24 @@ fn put_within(pages: &mut Vec<Held<Page>>, x: u32, words: Vec<u64>)
 {
     let k = x as usize / 64;
     let mut page = take_page(pages, k);
-    place_row(&mut page.rows, x as usize % 64, words);
-    put_page(pages, k, Held::Own(page));
+    place_row(&mut page.get_mut().rows, x as usize % 64, words);
+    put_page(pages, k, HeldPage::Own(page));
 }
 
 /// Puts a page at a place behind the others, in the room that there is.
-#[tactic(auto, using(crate::proofs::Pages::page_empty))]
-fn push_page(pages: &mut Vec<Held<Page>>, k: usize, page: Page)
+fn push_page(pages: &mut Vec<HeldPage>, k: usize, page: Owned<Page>)
     requires room { k < vec_capacity pages.old }
     requires behind { vec_len pages.old ≤ k }
     ensures { IsPushed k page pages.old.items pages.new.items }
 {
-    let alloc = *pages.allocator();
     while pages.len() < k {
-        pages.push_reserved(Held::Own(Page {
-            rows: Vec::new(alloc),
-        }));
+        pages.push_reserved(HeldPage::Empty);
     }
-    pages.push_reserved(Held::Own(page));
+    pages.push_reserved(HeldPage::Own(page));
 }
 
 /// Gives x a row, which fits.
-fn put_at(pages: &mut Vec<Held<Page>>, x: u32, row: NewRow)
+fn put_at(pages: &mut Vec<HeldPage>, x: u32, row: NewRow)
     requires few { vec_len pages.old ≤ 256 }
     requires x { x < most }
     requires fits { Fits (tabled pages.old) x row }
@@ -313,7 +276,7 @@ fn put_at(pages: &mut Vec<Held<Page>>, x: u32, row: NewRow)
 }
 
 /// Takes the row of x away.
-fn clear_at(pages: &mut Vec<Held<Page>>, x: u32)
+fn clear_at(pages: &mut Vec<HeldPage>, x: u32)
     requires live { has (map page_rows pages.old.items) x ≡ true }
     requires open { IsOpen (tabled pages.old) x }
     ensures long { vec_len pages.new ≡ vec_len pages.old }
@@ -322,20 +285,21 @@ fn clear_at(pages: &mut Vec<Held<Page>>, x: u32)
 {
     let k = x as usize / 64;
     let mut page = take_page(pages, k);
-    clear_row(&mut page.rows, x as usize % 64);
-    put_page(pages, k, Held::Own(page));
+    clear_row(&mut page.get_mut().rows, x as usize % 64);
+    put_page(pages, k, HeldPage::Own(page));
 }
 
-fn copy_held(alloc: Global, page: &Held<Page>) -> Result<Held<Page>, Memory>
+fn copy_held(alloc: Global, page: &HeldPage) -> Result<HeldPage, Memory>
     ensures { IfOk result (λ same. page_rows same ≡ page_rows page.now) }
 {
     match page {
-        Held::Own(page) => Ok(Held::Own(copy_of(alloc, page)?)),
-        Held::Shared(shared) => Ok(Held::Shared(Arc::try_clone(shared)?)),
+        HeldPage::Empty => Ok(HeldPage::Empty),
+        HeldPage::Own(page) => Ok(HeldPage::Own(copy_of(alloc, page)?)),
+        HeldPage::Shared(shared) => Ok(HeldPage::Shared(Arc::try_clone(shared)?)),
     }
 }
 
-fn copy_pages(alloc: Global, pages: &[Held<Page>]) -> Result<Vec<Held<Page>>, Memory>
+fn copy_pages(alloc: Global, pages: &[HeldPage]) -> Result<Vec<HeldPage>, Memory>
     ensures long { IfOk result (λ same. length same.items ≡ length pages.now) }
     ensures rows { IfOk result (λ same. map page_rows same.items ≡ map page_rows pages.now) }
 {
@@ -347,46 +311,25 @@ fn copy_pages(alloc: Global, pages: &[Held<Page>]) -> Result<Vec<Held<Page>>, Me
 }
 
 /// Lets a page and its rows be shared.
-fn share_page(alloc: Global, page: Held<Page>) -> Result<Held<Page>, Held<Page>>
-    ensures ok { IfOk result (λ same. page_rows same ≡ page_rows page) }
-    ensures err { IfErr result (λ same. page_rows same ≡ page_rows page) }
-{
-    match page {
-        Held::Own(mut page) => match share_rows(&mut page.rows) {
-            Ok(()) => shared(alloc, Held::Own(page)),
-            Err(_) => Err(Held::Own(page)),
-        },
-        Held::Shared(shared) => Ok(Held::Shared(shared)),
-    }
-}
-
-fn share_at(pages: &mut Vec<Held<Page>>, k: usize) -> Result<(), Memory>
+fn share_at(pages: &mut Vec<HeldPage>, k: usize) -> Result<(), Memory>
     requires { k < vec_len pages.old }
     ensures long { vec_len pages.new ≡ vec_len pages.old }
     ensures rows { map page_rows pages.new.items ≡ map page_rows pages.old.items }
 {
     let alloc = *pages.allocator();
-    let held = take_held(pages, k);
-    match share_page(alloc, held) {
-        Ok(page) => {
-            put_page(pages, k, page);
-            Ok(())
-        }
-        Err(page) => {
-            put_page(pages, k, page);
-            Err(Memory)
-        }
+    if let HeldPage::Own(page) = &pages[k] {
+        let shared = shared_of(alloc, page)?;
+        put_page(pages, k, HeldPage::Shared(shared));
     }
+    Ok(())
 }
 
-fn share_pages(pages: &mut Vec<Held<Page>>) -> Result<(), Memory>
+fn share_pages(pages: &mut Vec<HeldPage>) -> Result<(), Memory>
     ensures long { vec_len pages.new ≡ vec_len pages.old }
     ensures rows { map page_rows pages.new.items ≡ map page_rows pages.old.items }
 {
     for k in 0..pages.len() {
-        if is_own(&pages[k]) {
-            share_at(pages, k)?;
-        }
+        share_at(pages, k)?;
     }
     Ok(())
 }

@@ -7,8 +7,8 @@ use Rattle.pm_reach.proofs.table.find.Goals as goal
 pub returns-in-Some : goal.returns-in-Some
 returns-in-Some c =
     let h = c.in-Some.ensures.lookup in
-    c.find_row.ensures
-    ∙ rw (c.as_slice.ensures.value, c.read.ensures) (found-row c.args.pages.now c.args.x c.in-Some.page.now (slice_get_read c.args.pages.now (length c.args.pages.now) (c.args.x / 64) c.in-Some.page.now refl h.3.0 h.1))
+    c.find_in.ensures
+    ∙ (found-row c.args.pages.now c.args.x c.in-Some.page.now (slice_get_read c.args.pages.now (length c.args.pages.now) (c.args.x / 64) c.in-Some.page.now refl h.3.0 h.1))
 
 pub returns-in-None : goal.returns-in-None
 returns-in-None c = let h = c.in-None.ensures.lookup in found-none c.args.pages.now c.args.x (slice_get_past c.args.pages.now (c.args.x / 64) h.3)

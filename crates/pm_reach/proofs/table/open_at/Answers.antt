@@ -8,7 +8,7 @@ use Rattle.pm_reach.proofs.table.open_at.Goals as goal
 pub returns-clause-rows : goal.returns-clause-rows
 returns-clause-rows c =
     let s = swapped c.own_page.new.pages.items c.take_page-page.new.pages.items c.put_page.new.pages.items _ _ _ c.take_page-page.ensures.page c.take_page-page.ensures.pages c.put_page.ensures in
-    swapped-same s (ap shown c.reserve_place-result.ensures.same) ∙ c.own_page.ensures.rows
+    swapped-same s (rw c.get_mut.ensures.value (ap shown c.reserve_place-result.ensures.same)) ∙ c.own_page.ensures.rows
 
 pub returns-clause-open : goal.returns-clause-open
 returns-clause-open c =

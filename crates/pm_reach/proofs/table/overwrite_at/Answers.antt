@@ -1,7 +1,7 @@
 -- One row of one page was written.
 use Rattle.std.proofs.Common.{◌/◌, refl}
 use Rattle.std.specs.Vec.{with_item}
-use Rattle.pm_reach.specs.declared.held.Held.TheVariants.{Own}
+use Rattle.pm_reach.specs.declared.shared.HeldPage.TheVariants.{Own}
 use Rattle.pm_reach.proofs.Tables.{some-own}
 use Rattle.pm_reach.proofs.Pages.{page_written, ready-own, rows-new, ready-page, writes-page}
 use Rattle.pm_reach.proofs.table.overwrite_at.Goals as goal
@@ -16,4 +16,4 @@ returns-clause-writes c =
     let s = page_written c.args.pages.now.items (c.args.x / 64) c.index_mut.result.now (record { rows = c.overwrite_row.new.rows }) (ready-own c.args.pages.now.items c.args.x _ c.requires.ready) c.index_mut.ensures.value c.in-Own.is in
     writes-page c.args.pages.now (with_item c.args.pages.now (c.args.x / 64) (Own (record { rows = c.overwrite_row.new.rows }))) c.args.x s
     (some-own c.in-Own.page.rows.items _ _ (ready-page c.args.pages.now.items c.args.x _ c.in-Own.page s.was c.requires.ready)) c.overwrite_row.ensures.live
-    c.overwrite_row.ensures.others
+    (rw c.get_mut.ensures.value c.overwrite_row.ensures.others)

@@ -1,30 +1,20 @@
 -- The page has the same rows.
-use Rattle.std.proofs.Common.{ap}
-use Rattle.pm_reach.specs.Table.{page_rows, is_own}
-use Rattle.pm_reach.proofs.Pages.{swapped, swapped-same, swapped-stays, own-stays}
+use Rattle.std.proofs.Common.{◌∙◌, ap, sym, arith}
+use Rattle.pm_reach.specs.Table.{is_own}
+use Rattle.pm_reach.proofs.Pages.{page_put, swapped-same, swapped-stays, no-room}
 use Rattle.pm_reach.proofs.table.own_page.Goals as goal
 
-pub returns-in-Ok-clause-rows : goal.returns-in-Ok-clause-rows
-returns-in-Ok-clause-rows c =
-    let s = swapped c.args.pages.now.items c.take_held-held.new.pages.items c.put_page.new.pages.items c.args.k c.take_held-held.result _ c.take_held-held.ensures.page c.take_held-held.ensures.pages c.put_page.ensures in
-    swapped-same s c.in-Ok.ensures.ok
+pub returns-clause-rows : goal.returns-clause-rows
+returns-clause-rows c =
+    let s = page_put c.args.pages.now.items c.put_page.new.pages.items c.args.k c.index-held.result.now _ (omega (arith, c.requires, c.args.pages.now.ok.0)) c.index-held.ensures c.put_page.ensures in
+    swapped-same s c.in_ok-page.ensures
 
-pub returns-in-Ok-clause-own : goal.returns-in-Ok-clause-own
-returns-in-Ok-clause-own c =
-    let s = swapped c.args.pages.now.items c.take_held-held.new.pages.items c.put_page.new.pages.items c.args.k c.take_held-held.result _ c.take_held-held.ensures.page c.take_held-held.ensures.pages c.put_page.ensures in
+pub returns-clause-own : goal.returns-clause-own
+returns-clause-own c =
+    let s = page_put c.args.pages.now.items c.put_page.new.pages.items c.args.k c.index-held.result.now _ (omega (arith, c.requires, c.args.pages.now.ok.0)) c.index-held.ensures c.put_page.ensures in
     ap is_own s.is
 
-pub returns-in-Ok-clause-stays : goal.returns-in-Ok-clause-stays
-returns-in-Ok-clause-stays c =
-    let s = swapped c.args.pages.now.items c.take_held-held.new.pages.items c.put_page.new.pages.items c.args.k c.take_held-held.result _ c.take_held-held.ensures.page c.take_held-held.ensures.pages c.put_page.ensures in
-    swapped-stays s (own-stays c.take_held-held.result c.in-Ok.page c.in-Ok.ensures.own)
-
-pub returns-in-Err-clause-rows : goal.returns-in-Err-clause-rows
-returns-in-Err-clause-rows c =
-    let s = swapped c.args.pages.now.items c.take_held-held.new.pages.items c.put_page-in-Err.new.pages.items c.args.k c.take_held-held.result _ c.take_held-held.ensures.page c.take_held-held.ensures.pages c.put_page-in-Err.ensures in
-    swapped-same s (ap page_rows c.in-Err.ensures.err)
-
-pub returns-in-Err-clause-stays : goal.returns-in-Err-clause-stays
-returns-in-Err-clause-stays c =
-    let s = swapped c.args.pages.now.items c.take_held-held.new.pages.items c.put_page-in-Err.new.pages.items c.args.k c.take_held-held.result _ c.take_held-held.ensures.page c.take_held-held.ensures.pages c.put_page-in-Err.ensures in
-    swapped-stays s (λ i n h. rw c.in-Err.ensures.err h)
+pub returns-clause-stays : goal.returns-clause-stays
+returns-clause-stays c =
+    let s = page_put c.args.pages.now.items c.put_page.new.pages.items c.args.k c.index-held.result.now _ (omega (arith, c.requires, c.args.pages.now.ok.0)) c.index-held.ensures c.put_page.ensures in
+    swapped-stays s (λ i n r. absurd (no-room c.index-held.result.now (sym c.is_own.ensures ∙ c.if-is_own.false) i n r))

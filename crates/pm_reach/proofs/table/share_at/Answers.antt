@@ -1,13 +1,10 @@
 -- The page has the same rows.
-use Rattle.pm_reach.proofs.Pages.{swapped, swapped-same}
+use Rattle.std.proofs.Common.{◌∙◌, ap, sym, arith}
+use Rattle.pm_reach.specs.Table.{page_rows}
+use Rattle.pm_reach.proofs.Pages.{page_put, swapped-same}
 use Rattle.pm_reach.proofs.table.share_at.Goals as goal
 
-pub returns-in-Ok-clause-rows : goal.returns-in-Ok-clause-rows
-returns-in-Ok-clause-rows c =
-    let s = swapped c.args.pages.now.items c.take_held-held.new.pages.items c.put_page.new.pages.items c.args.k c.take_held-held.result _ c.take_held-held.ensures.page c.take_held-held.ensures.pages c.put_page.ensures in
-    swapped-same s c.in-Ok.ensures.ok
-
-pub returns-in-Err-clause-rows : goal.returns-in-Err-clause-rows
-returns-in-Err-clause-rows c =
-    let s = swapped c.args.pages.now.items c.take_held-held.new.pages.items c.put_page-in-Err.new.pages.items c.args.k c.take_held-held.result _ c.take_held-held.ensures.page c.take_held-held.ensures.pages c.put_page-in-Err.ensures in
-    swapped-same s c.in-Err.ensures.err
+pub returns-in_ok-shared-clause-rows : goal.returns-in_ok-shared-clause-rows
+returns-in_ok-shared-clause-rows c =
+    let s = page_put c.args.pages.now.items c.put_page.new.pages.items c.args.k c.index.result.now _ (omega (arith, c.requires, c.args.pages.now.ok.0)) c.index.ensures c.put_page.ensures in
+    swapped-same s (c.in_ok-shared.ensures ∙ sym (ap page_rows c.in-Own.is))

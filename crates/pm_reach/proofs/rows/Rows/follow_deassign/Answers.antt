@@ -8,7 +8,7 @@ pub invariant_of-self : goal.invariant_of-self
 invariant_of-self g c = (
   order-deassigns (g.P.Parents.assigned c.args.parents.now) c.self.inside.table.rows c.deassign.new.table.rows c.args.x c.args.y
       (rw (← c.self.view_is) at c.requires.was) c.deassign.ensures.rows c.self.invariant.0,
-  nothing-ready c.deassign.new.table c.self.inside.unions.rows c.take-ready.new.ready c.take-ready.ensures.none,
+  nothing-ready c.deassign.new.table c.self.inside.unions.rows c.self.inside.containers c.take-ready.new.ready c.take-ready.ensures.none,
   keep-deassigns (g.P.Parents.assigned c.args.parents.now) c.self.inside.table.rows c.deassign.new.table.rows c.self.inside.containers c.args.x c.args.y
       (rw (← c.self.view_is) at c.requires.was) c.deassign.ensures.rows c.self.invariant.2,
   deassigns_unions (g.P.Parents.assigned c.args.parents.now) c.self.inside.unions.rows c.self.inside.table.rows c.deassign.new.table.rows c.args.x c.args.y
