@@ -1,8 +1,8 @@
 -- A diagram stays drawn: one lemma for each change, where the rows have followed it.
-use Rattle.std.proofs.Common.{◌≡◌, ◌==◌, ◌||◌, ◌&&◌, ℕ, List, ◌∷◌, Option, Some, None, true, false, not, refl, sym, ◌∙◌, ◌<◌, inl, inr, is_some, eq-eqb, Contains}
+use Rattle.std.proofs.Common.{◌≡◌, ◌==◌, ◌||◌, ◌&&◌, ℕ, Bool, List, ◌∷◌, Option, Some, None, true, false, not, refl, sym, ◌∙◌, ◌<◌, inl, inr, is_some, eq-eqb, Contains}
 use Rattle.std.specs.Prelude.{IfSome}
 use Rattle.std.specs.List.{list_any}
-use Rattle.std.proofs.lemmas.Bool.{cases_eq, ne_eqb, eqb-false, false_from_ne_true, not-true, true≢false, and_parts}
+use Rattle.std.proofs.lemmas.Bool.{cases_eq, ne_eqb, eqb-false, eqb-true, false_from_ne_true, not-true, true≢false, and_parts}
 use Rattle.pm_model.specs.State.{element_at, is_numbered}
 use Rattle.pm_model.specs.Containment.{contained}
 use Rattle.pm_model.specs.Effect.{placed, with_pair, with_assignment, is_pair, is_from, is_to, has_child}
@@ -16,15 +16,17 @@ use Rattle.pm_laws.proofs.Deleted.{left, left_pairs, rising-filter}
 use Rattle.pm_laws.proofs.Items.{each-to, each-at, each-from, each-filter, filter-contains, none-at}
 use Rattle.pm_laws.proofs.Numbers.{live-apart, rising-placed, live-placed, new-placed, placed-other}
 use Rattle.pm_laws.proofs.Pairs.{without}
-use Rattle.pm_reach.specs.Rows.{has, below, most}
+use Rattle.pm_reach.specs.Rows.{has, below, inside, most}
 use Rattle.pm_reach.specs.Order.{IsOrder}
 use Rattle.pm_reach.specs.Changes.{TellContainment, Adds, Creates, Makes, Assigns, Deassigns, Removes, CanFollow}
 use Rattle.pm_reach.specs.declared.step.Step.TheVariants as step
 use Rattle.pm_reach.proofs.Bits.{eqb-turned}
-use Rattle.pm_reach.proofs.Openings.{assigned_more, added_more}
-use Rattle.pm_reach.proofs.Orders.{contained-cons}
-use Rattle.pm_reach.proofs.Passing.{has_below}
+use Rattle.pm_reach.proofs.Openings.{assigned_more, added_more, below-none}
+use Rattle.pm_reach.proofs.Orders.{contained-cons, or-cases}
+use Rattle.pm_reach.proofs.Passing.{has_below, count_same}
+use Rattle.pm_diagram.specs.Shape.{count_inside}
 use Rattle.pm_diagram.specs.Drawn.{JoinsLive, Drawn}
+use Rattle.pm_diagram.proofs.Counting.{count-listed}
 use Rattle.pm_diagram.proofs.Containing.{contained-added, contained-again, contained-beside, contained-without, contained-fresh, contained-alone, contained-childless, contained-left}
 
 -- what is told of one list of assignments is told of another with the same containment
@@ -44,6 +46,19 @@ module _ (es : List Element) (assigned : List (ℕ × ℕ)) (old : List (List (O
   told-at : (p q : ℕ) → IsLive es p → below old p q ≡ contained assigned p q
   told-at p q live = d.told p q (with-row p live)
 
+  -- ---- how many are contained in an element
+
+  by-row : (z x : ℕ) → below old z x ≡ (is_some (element_at es z) && contained assigned z x)
+  by-row z x = go (has old z) refl where
+    go : (b : Bool) → has old z ≡ b → below old z x ≡ (is_some (element_at es z) && contained assigned z x)
+    go true h = d.told z x h ∙ rw (sym (d.live z) ∙ h) refl
+    go false h = below-none old z h x ∙ rw (sym (d.live z) ∙ h) refl
+
+  pub inside-listed : (x : ℕ) → inside old x ≡ count_inside es assigned x
+  inside-listed x =
+      count_same (λ z. below old z x) (λ z. is_some (element_at es z) && contained assigned z x) most (λ z. by-row z x)
+      ∙ count-listed (λ z. contained assigned z x) 0 most es d.rising d.few
+
   -- ---- an element made, at the least unused number
 
   module _ (e : Element) (new : List (List (Option (List ℕ)))) (u : e.number ≡ unused es) where
@@ -59,17 +74,24 @@ module _ (es : List Element) (assigned : List (ℕ × ℕ)) (old : List (List (O
       | inr other ↦ rw (ne_eqb p e.number other, placed-other e es p (λ same. other (sym same))) (d.live p)
     ]
 
+    few-more : e.number < most → (p : ℕ) → IsLive (placed e es) p → p < most
+    few-more few p live = elim (or-cases (p == e.number) (has old p) (live-more p ∙ live)) [
+      | inl same ↦ rw (eqb-true p e.number same) few
+      | inr stood ↦ d.few p (from-row p stood)
+    ]
+
     joined-more : Each (JoinsLive (placed e es)) assigned
     joined-more = each-to (JoinsLive es) (JoinsLive (placed e es)) (λ p h. (still p.0 h.0, still p.1 h.1)) assigned d.joined where
       still : (n : ℕ) → IsLive es n → IsLive (placed e es) n
       still n live = rw (live-placed e es n d.rising u live) live
 
-    drawn-added : Adds e.number old new → Drawn (placed e es) assigned new
-    drawn-added a = record {
+    drawn-added : e.number < most → Adds e.number old new → Drawn (placed e es) assigned new
+    drawn-added few a = record {
       live = λ p. a.live p ∙ live-more p;
       told = added_more assigned old new e.number no-row (contained-alone es assigned d.joined e.number fresh) d.told a;
       joined = joined-more;
       rising = rising-placed e 0 es d.rising u;
+      few = few-more few;
     }
 
     module _ (y : ℕ) (y_live : IsLive es y) (c : Creates e.number y old new) where
@@ -101,8 +123,8 @@ module _ (es : List Element) (assigned : List (ℕ × ℕ)) (old : List (List (O
             contained-fresh es assigned d.joined e.number p fresh (from-row p h),
           ) refl
 
-      drawn-created : Drawn (placed e es) (with_assignment (e.number, y) assigned) new
-      drawn-created = record {
+      drawn-created : e.number < most → Drawn (placed e es) (with_assignment (e.number, y) assigned) new
+      drawn-created few = record {
         live = λ p. c.live p ∙ live-more p;
         told = told-same ((e.number, y) ∷ assigned) (with_assignment (e.number, y) assigned) new
             (λ p q. sym (contained-added assigned e.number y p q))
@@ -113,12 +135,13 @@ module _ (es : List Element) (assigned : List (ℕ × ℕ)) (old : List (List (O
         joined = each-added (e.number, y) (JoinsLive (placed e es)) assigned joined-more
             (rw (new-placed e es d.rising u) refl, rw (live-placed e es y d.rising u y_live) y_live);
         rising = rising-placed e 0 es d.rising u;
+        few = few-more few;
       }
 
-    pub drawn-made : (into : Option ℕ) → IfSome into (IsLive es) → Makes e.number into old new →
+    pub drawn-made : (into : Option ℕ) → IfSome into (IsLive es) → e.number < most → Makes e.number into old new →
         Drawn (placed e es) (with_pair into e.number assigned) new
-    drawn-made None live made = drawn-added made
-    drawn-made (Some y) live made = drawn-created y live made
+    drawn-made None live few made = drawn-added few made
+    drawn-made (Some y) live few made = drawn-created y live made few
 
     -- the rows can follow it
     pub can-make : (into : Option ℕ) → IfSome into (IsLive es) → e.number < most → CanFollow old (step.Make e.number into)
@@ -135,6 +158,7 @@ module _ (es : List Element) (assigned : List (ℕ × ℕ)) (old : List (List (O
         (assigned_more assigned old new x y (with-row y y_live) d.told a);
     joined = each-added (x, y) (JoinsLive es) assigned d.joined (x_live, y_live);
     rising = d.rising;
+    few = d.few;
   }
 
   -- one that adds nothing
@@ -144,6 +168,7 @@ module _ (es : List Element) (assigned : List (ℕ × ℕ)) (old : List (List (O
     told = told-same assigned (with_assignment (x, y) assigned) old (λ p q. sym (contained-added assigned x y p q ∙ contained-again assigned x y up p q)) d.told;
     joined = each-added (x, y) (JoinsLive es) assigned d.joined (x_live, y_live);
     rising = d.rising;
+    few = d.few;
   }
 
   -- ---- an assignment taken away
@@ -160,6 +185,7 @@ module _ (es : List Element) (assigned : List (ℕ × ℕ)) (old : List (List (O
     told = a.related;
     joined = each-filter (JoinsLive es) (λ pair. not (is_pair x y pair)) assigned d.joined;
     rising = d.rising;
+    few = d.few;
   }
 
   -- one that added nothing
@@ -170,6 +196,7 @@ module _ (es : List Element) (assigned : List (ℕ × ℕ)) (old : List (List (O
         (λ p q. sym (contained-without assigned x y stands p q) ∙ contained-again (without x y assigned) x y up p q) d.told;
     joined = each-filter (JoinsLive es) (λ pair. not (is_pair x y pair)) assigned d.joined;
     rising = d.rising;
+    few = d.few;
   }
 
   -- another container of x, in which y contains it
@@ -208,4 +235,5 @@ module _ (es : List Element) (assigned : List (ℕ × ℕ)) (old : List (List (O
             stays pair.1 (eqb-false pair.1 x (none-at (is_to x) assigned pair none kept.0)) ends.1,
           ));
       rising = rising-filter (λ e. not (is_numbered x e)) 0 es d.rising;
+      few = λ p live. d.few p (from-row p (and_parts (not (p == x)) (has old p) (live-less p ∙ live)).1);
     }

@@ -1,2 +1,3 @@
-mod Containing
-mod Drawing
+pub mod Containing
+pub mod Counting
+pub mod Drawing

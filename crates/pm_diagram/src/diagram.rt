@@ -2,7 +2,7 @@
 //! changed, which may still find no memory for itself; and then the rows follow, which can't fail. So
 //! all is done, or nothing.
 
-ghost use Rattle.std.specs.Prelude.{◌≡◌, ◌≢◌, ℕ, ◌<◌, ◌==◌, ◌*◌, ◌+◌, ◌/◌, false, None, OnOk, OnErr, IfOk, IfErr, IfSome, is_some, filter, not, true};
+ghost use Rattle.std.specs.Prelude.{◌≡◌, ◌≢◌, ℕ, ◌<◌, ◌==◌, ◌*◌, ◌+◌, ◌/◌, if◌then◌else◌, false, None, OnOk, OnErr, IfOk, IfErr, IfSome, is_some, filter, not, true};
 ghost use Rattle.std.specs.Int.{bit_at};
 ghost use Rattle.std.specs.List.{list_any};
 ghost use Rattle.pm_model.specs.Containment.{contained};
@@ -13,8 +13,9 @@ ghost use Rattle.pm_model.specs.Results.{first_of};
 ghost use Rattle.pm_model.specs.State.{element, element_at, is_numbered, opening_elements, opening_assigned};
 ghost use Rattle.pm_elements.specs.Checks.{remove_checks};
 ghost use Rattle.pm_elements.specs.Told.{told, IsCycleOf};
-ghost use Rattle.pm_reach.specs.Rows.{has};
+ghost use Rattle.pm_reach.specs.Rows.{has, counted};
 ghost use Rattle.pm_reach.specs.Changes.{TellContainment};
+ghost use Rattle.pm_diagram.specs.Shape.{count_inside};
 
 use pm_elements::{Elements, ElementsError};
 use pm_model::{ElementId, Kind, Memory, Name, Parents};
@@ -23,7 +24,9 @@ use std::alloc::Global;
 use std::marker::Model;
 
 /// The live policy elements, their assignments, and the containment that these make. Contracts see the
-/// two lists.
+/// two lists, and how many rows were written since the opening: where an assignment comes or goes, that of
+/// each element that is contained in the one assigned; for an element that is made, its own, and once more
+/// where it is made in a container.
 #[derive(Drop)]
 pub struct Diagram {
     elements: Elements,
@@ -47,6 +50,7 @@ impl Diagram {
     pub fn opening(alloc: Global) -> Result<Diagram, Memory>
         ensures elements { IfOk result (λ d. d.elements ≡ opening_elements) }
         ensures assigned { IfOk result (λ d. d.assigned ≡ opening_assigned) }
+        ensures written { IfOk result (λ d. d.written ≡ 0) }
     {
         let elements = Elements::opening(alloc)?;
         let rows = ReachRows::opening(alloc)?;
@@ -83,6 +87,7 @@ impl Diagram {
     pub fn rows(&self) -> &ReachRows
         ensures live { (x : ℕ) → has result.now.rows x ≡ is_some (element_at self.now.elements x) }
         ensures rows { TellContainment self.now.assigned result.now.rows }
+        ensures written { result.now.written ≡ self.now.written }
     {
         &self.rows
     }
@@ -160,6 +165,7 @@ impl Diagram {
         ensures few { IfOk result (λ n. n < max_elements) }
         ensures elements { OnOk result (self.new.elements ≡ placed (element (unused self.old.elements) kind name) self.old.elements) }
         ensures assigned { OnOk result (self.new.assigned ≡ with_pair into (unused self.old.elements) self.old.assigned) }
+        ensures written { OnOk result (self.new.written ≡ counted self.old.written (if is_some into then 2 else 1)) }
         ensures refused { IfErr result (λ e. IsCause (first_of (create_checks self.old.elements self.old.assigned kind name into)) (told e)) }
         ensures err { OnErr result (self.new ≡ self.old) }
     {
@@ -194,7 +200,7 @@ impl Diagram {
         requires x_live { IsLive self.old.elements x }
         requires y_live { IsLive self.old.elements y }
         ensures fits { OnOk result (first_of (assign_checks self.old.elements self.old.assigned x y) ≡ None) }
-        ensures ok { OnOk result (self.new ≡ record self.old { assigned = with_assignment (x, y) self.old.assigned }) }
+        ensures ok { OnOk result (self.new ≡ record self.old { assigned = with_assignment (x, y) self.old.assigned; written = counted self.old.written (count_inside self.old.elements self.old.assigned x) }) }
         ensures refused { IfErr result (λ e. IsCause (first_of (assign_checks self.old.elements self.old.assigned x y)) (told e)) }
         ensures ends { IfErr result (IsCycleOf x y) }
         ensures err { OnErr result (self.new ≡ self.old) }
@@ -232,15 +238,15 @@ impl Diagram {
         requires x_live { IsLive self.old.elements x }
         requires y_live { IsLive self.old.elements y }
         ensures fits { OnOk result (first_of (deassign_checks self.old.assigned x y) ≡ None) }
-        ensures ok { OnOk result (self.new ≡ record self.old { assigned = filter (λ pair. not (is_pair x y pair)) self.old.assigned }) }
+        ensures ok { OnOk result (self.new ≡ record self.old { assigned = filter (λ pair. not (is_pair x y pair)) self.old.assigned; written = counted self.old.written (count_inside self.old.elements self.old.assigned x) }) }
         ensures refused { IfErr result (λ e. IsCause (first_of (deassign_checks self.old.assigned x y)) (told e)) }
         ensures err { OnErr result (self.new ≡ self.old) }
     {
         self.elements.check_deassign(x, y)?;
         if self.is_inside_beside(x, y) {
-            let same = self.rows.inside(x)?;
+            let kept = self.rows.inside(x)?;
             self.elements.deassign(x, y)?;
-            self.rows.count(same);
+            self.rows.count(kept);
             return Ok(());
         }
         self.rows.prepare(Step::Deassign { x, y })?;
@@ -270,6 +276,7 @@ impl Diagram {
         ensures fits { OnOk result (first_of (remove_checks self.old.assigned id) ≡ None) }
         ensures elements { OnOk result (self.new.elements ≡ filter (λ e. not (is_numbered id e)) self.old.elements) }
         ensures assigned { OnOk result (self.new.assigned ≡ filter (λ pair. not (is_from id pair)) self.old.assigned) }
+        ensures written { OnOk result (self.new.written ≡ self.old.written) }
         ensures refused { IfErr result (λ e. IsCause (first_of (remove_checks self.old.assigned id)) (told e)) }
         ensures err { OnErr result (self.new ≡ self.old) }
     {

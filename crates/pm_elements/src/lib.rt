@@ -2,6 +2,7 @@
 #![tactic(auto)]
 
 mod checks;
+mod containers;
 mod errors;
 mod kinds;
 mod links;

@@ -1,11 +1,11 @@
 //! An assignment is written in the slots of both ends.
 
-ghost use Rattle.std.specs.Prelude.{◌≡◌, ◌==◌, ◌<◌, ◌^◌, ◌-◌, true, IsSome, IsOk, OnOk, OnErr, filter, not};
+ghost use Rattle.std.specs.Prelude.{◌≡◌, ◌==◌, ◌<◌, ◌^◌, ◌-◌, true, IsSome, IsOk, OnOk, OnErr};
 ghost use Rattle.pm_pages.specs.Paged.{IsOwn};
 ghost use Rattle.pm_elements.specs.Slots.{slot_at, children_of, edited, with_parent, without_parent, with_child, without_child, linked, unlinked};
 
 use crate::slots::{Slots, own_both};
-use pm_model::{ElementId, ItemList, Memory};
+use pm_model::{ElementId, Memory};
 
 /// Notes in the slot of x that x is assigned to y. On Memory the slots are as before.
 #[tactic(auto, using(crate::proofs::Edits::edited_taken))]
@@ -20,13 +20,6 @@ fn add_parent(slots: &mut Slots, x: ElementId, y: ElementId) -> Result<(), Memor
     slot.parents.push(y)
 }
 
-/// Takes y out of the list.
-fn take_out(parents: &mut ItemList<ElementId>, y: ElementId)
-    ensures { parents.new ≡ filter (λ z. not (z == y)) parents.old }
-{
-    parents.retain(|parent| *parent != y);
-}
-
 /// Notes in the slot of x that x is no more assigned to y.
 #[tactic(auto, using(crate::proofs::Edits::edited_taken))]
 fn drop_parent(slots: &mut Slots, x: ElementId, y: ElementId)
@@ -35,7 +28,7 @@ fn drop_parent(slots: &mut Slots, x: ElementId, y: ElementId)
     ensures { slots.new ≡ record slots.old { items = edited (without_parent y) x slots.old.items } }
 {
     let slot = slots.edit(x.number() as usize).as_mut().unwrap();
-    take_out(&mut slot.parents, y);
+    slot.parents.remove(y);
 }
 
 /// Counts one more element that is assigned to y.

@@ -7,9 +7,10 @@ ghost use Rattle.pm_pages.specs.Paged.{IsOwn, Keeps};
 ghost use Rattle.pm_names.specs.Named.{Renames};
 ghost use Rattle.pm_elements.specs.Slots.{shown, slot_at, children_of, first_free, opened, new_slot, joined};
 
+use crate::containers::Containers;
 use crate::links::add_child;
 use crate::slots::{Slot, Slots};
-use pm_model::{ElementId, ItemList, Kind, Memory, Name};
+use pm_model::{ElementId, Kind, Memory, Name};
 use pm_names::Names;
 use std::alloc::Global;
 
@@ -81,7 +82,7 @@ pub(crate) fn least_free(slots: &Slots, live: usize) -> ElementId
 fn new_slot(alloc: Global, new: &NewElement) -> Result<Slot, Memory>
     ensures { IfOk result (λ s. s ≡ new_slot new.now.kind new.now.name new.now.into) }
 {
-    let mut parents = ItemList::new(alloc);
+    let mut parents = Containers::new(alloc);
     if let Some(into) = new.into {
         parents.push(into)?;
     }

@@ -54,13 +54,13 @@ fn take_slot(slots: &mut Slots, id: ElementId) -> Slot
 }
 
 /// Counts one child less of each of these.
-fn release(slots: &mut Slots, parents: &[ElementId])
+fn release(slots: &mut Slots, parents: &[u32])
     requires live { (i y : ℕ) → slice_get parents.now i ≡ Some y → IsSome (slot_at slots.old.items y) }
     requires own { (i y : ℕ) → slice_get parents.now i ≡ Some y → IsOwn slots.old y }
     ensures { slots.new ≡ record slots.old { items = released parents.now slots.old.items } }
 {
     for parent in parents {
-        drop_child(slots, *parent);
+        drop_child(slots, ElementId(*parent));
     }
 }
 
@@ -73,7 +73,7 @@ fn free(slots: &mut Slots, id: ElementId)
     ensures { slots.new ≡ record slots.old { items = removed id slots.old.items } }
 {
     let slot = take_slot(slots, id);
-    release(slots, slot.parents.as_slice());
+    release(slots, slot.parents.numbers());
 }
 
 /// Takes an element and its assignments out. What it is assigned to is live, and isn't itself. On

@@ -8,7 +8,8 @@ ghost use Rattle.pm_pages.specs.Paged.{IsOwn};
 ghost use Rattle.pm_elements.specs.Checks.{least_from};
 ghost use Rattle.pm_elements.specs.Slots.{slot_at, shown, parents_of, children_of};
 
-use pm_model::{ElementId, ItemList, Kind, Memory, Name};
+use crate::containers::Containers;
+use pm_model::{ElementId, Kind, Memory, Name};
 use pm_pages::{CopyOf, LeafList};
 use std::alloc::Global;
 
@@ -17,7 +18,7 @@ use std::alloc::Global;
 pub(crate) struct Slot {
     pub kind: Kind,
     pub name: Name,
-    pub parents: ItemList<ElementId>,
+    pub parents: Containers,
     pub children: u32,
 }
 
@@ -65,7 +66,7 @@ pub(crate) fn parent_at(slots: &Slots, x: ElementId, i: usize) -> ElementId
     requires within { i < length (parents_of (slot_at slots.now.items x)) }
     ensures { slice_get (parents_of (slot_at slots.now.items x)) i ≡ Some result }
 {
-    *taken_slot(slots, x).parents.at(i)
+    taken_slot(slots, x).parents.at(i)
 }
 
 /// Whether x is assigned to y, by what x is assigned to.
@@ -73,7 +74,7 @@ pub(crate) fn has_parent(slots: &Slots, x: ElementId, y: ElementId) -> bool
     requires { IsLive (shown slots.now.items) x }
     ensures { result ≡ list_any (λ z. z == y) (parents_of (slot_at slots.now.items x)) }
 {
-    taken_slot(slots, x).parents.as_slice().contains(&y)
+    taken_slot(slots, x).parents.has(y)
 }
 
 /// How many elements x is assigned to.

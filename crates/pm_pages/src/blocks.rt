@@ -41,6 +41,11 @@ impl<T> Block<T> {
         self.items.as_slice()
     }
 
+    /// Where it takes its memory from.
+    pub(crate) fn allocator(&self) -> Global {
+        *self.items.allocator()
+    }
+
     /// The item at a place, to be written.
     pub(crate) fn item_mut(&mut self, i: usize) -> &mut T
         requires { i < length self.old }

@@ -6,7 +6,7 @@ ghost use Rattle.std.specs.Borrow.{Lends, sem};
 
 use crate::blocks::Block;
 use crate::copies::CopyOf;
-use crate::pages::{Page, copy_page, insert_into, items, own, remove_from, share};
+use crate::pages::{Page, copy_page, insert_into, items, own, own_of, remove_from, share};
 use pm_model::Memory;
 use std::alloc::Global;
 use std::marker::Model;
@@ -29,15 +29,6 @@ impl<T> Model for Leaf<T> {
 impl<T> Leaf<T> {
     ghost use Rattle.pm_pages.specs.contracts.leaf.Leaf.{the_row};
 
-    /// The leaf without items, which takes no memory.
-    pub(crate) fn empty(alloc: Global) -> Self
-        ensures { result ≡ record { items = []; own = true } }
-    {
-        Leaf {
-            page: Page::Own(Block::empty(alloc)),
-        }
-    }
-
     pub(crate) fn as_slice(&self) -> &[T]
         ensures { result.now ≡ self.now.items }
     {
@@ -56,6 +47,14 @@ impl<T> Leaf<T> {
 }
 
 impl<T: Drop> Leaf<T> {
+    /// The leaf without items.
+    pub(crate) fn empty(alloc: Global) -> Result<Self, Memory>
+        ensures { IfOk result (λ leaf. leaf ≡ record { items = []; own = true }) }
+    {
+        let page = own_of(alloc, Block::empty(alloc))?;
+        Ok(Leaf { page })
+    }
+
     /// Lets it be shared. It takes memory where it wasn't.
     pub(crate) fn share(&mut self, alloc: Global) -> Result<(), Memory>
         ensures { self.new.items ≡ self.old.items }

@@ -11,6 +11,7 @@ mod leaf;
 mod leaf_list;
 mod list;
 mod list_row;
+mod owned;
 mod pages;
 mod places;
 mod rows;
@@ -20,6 +21,7 @@ pub use copies::CopyOf;
 pub use leaf_list::LeafList;
 pub use list::PageList;
 pub use list_row::ListRow;
+pub use owned::Owned;
 
 #[cfg(test)]
 mod tests;

@@ -103,7 +103,7 @@ impl<T: CopyOf + Drop> ListRow<T> {
         ensures err { OnErr result (self.new ≡ self.old) }
         ensures alone { self.new.alone ≡ self.old.alone }
     {
-        let leaf = Leaf::empty(self.leaves.allocator());
+        let leaf = Leaf::empty(self.leaves.allocator())?;
         self.leaves.push(leaf)
     }
 

@@ -2,12 +2,14 @@
 
 ghost use Rattle.std.specs.Prelude.{◌≡◌, ◌<◌, ◌≤◌, ◌++◌, true, Bool, Some, length, insert, slice_get, OnOk, OnErr, IfOk, IfErr, IsOk};
 ghost use Rattle.std.specs.List.{remove};
+ghost use Rattle.std.specs.Arc.{arc_value};
 ghost use Rattle.std.specs.Borrow.{Lends, sem};
 ghost use Rattle.pm_pages.specs.Paged.{Decides};
 ghost use Rattle.pm_pages.specs.Listed.{items_of, is_own, with_item, without_item, changed_item, owned, spared};
 
 use crate::blocks::Block;
 use crate::copies::CopyOf;
+use crate::owned::Owned;
 use pm_model::Memory;
 use std::alloc::Global;
 use std::mem::replace;
@@ -17,7 +19,7 @@ use std::sync::Arc;
 #[derive(Drop)]
 pub(crate) enum Page<T> {
     /// No other list has the page.
-    Own(Block<T>),
+    Own(Owned<Block<T>>),
     /// Other lists may have the page too.
     Shared(Arc<Block<T>>),
 }
@@ -33,7 +35,7 @@ impl<T> Page<T> {
         ensures value { self.old ≡ Page.Own result.now }
     {
         match self {
-            Page::Own(block) => block,
+            Page::Own(block) => block.get_mut(),
             Page::Shared(_) => unreachable!(),
         }
     }
@@ -54,41 +56,23 @@ pub(crate) fn items<T>(page: &Page<T>) -> &[T]
     ensures { result.now ≡ items_of page.now }
 {
     match page {
-        Page::Own(block) => block.as_slice(),
+        Page::Own(block) => block.get().as_slice(),
         Page::Shared(block) => block.as_slice(),
     }
 }
 
-/// The items of a page to be written: its own, or a copy where another list has the page.
-fn writable<T: CopyOf + Drop>(alloc: Global, page: Page<T>) -> Result<Block<T>, Page<T>>
-    ensures ok { IfOk result (λ block. block ≡ items_of page) }
-    ensures err { IfErr result (λ same. same ≡ page) }
-    ensures own { is_own page ≡ true → IsOk result }
+/// Whether no other list has the page.
+fn is_own<T>(page: &Page<T>) -> bool
+    ensures { result ≡ is_own page.now }
 {
-    match page {
-        Page::Own(block) => Ok(block),
-        Page::Shared(shared) => unshared(alloc, shared),
-    }
+    matches!(page, Page::Own(_))
 }
 
-fn unshared<T: CopyOf + Drop>(alloc: Global, shared: Arc<Block<T>>) -> Result<Block<T>, Page<T>>
-    ensures ok { IfOk result (λ block. block ≡ items_of (Page.Shared shared)) }
-    ensures err { IfErr result (λ same. same ≡ Page.Shared shared) }
+/// A page of a list's own with these items. On Memory they are dropped.
+pub(crate) fn own_of<T: Drop>(alloc: Global, block: Block<T>) -> Result<Page<T>, Memory>
+    ensures { IfOk result (λ page. page ≡ Page.Own block) }
 {
-    match Arc::try_unwrap(shared) {
-        Ok(block) => Ok(block),
-        Err(shared) => match Block::copy_of(alloc, shared.as_slice()) {
-            Ok(block) => Ok(block),
-            Err(_) => Err(Page::Shared(shared)),
-        },
-    }
-}
-
-/// Takes a page's content out, to be put back.
-fn take<T>(alloc: Global, page: &mut Page<T>) -> Page<T>
-    ensures { result ≡ page.old }
-{
-    replace(page, Page::Own(Block::empty(alloc)))
+    Ok(Page::Own(Owned::new(alloc, block)?))
 }
 
 /// Takes the item at a place out of a page of its own.
@@ -109,34 +93,11 @@ pub(crate) fn spare<T: Drop, F: Fn(&T) -> bool>(page: &mut Page<T>, test: &F)
     ensures { page.new ≡ spared passes page.old }
 {
     if let Page::Own(block) = page {
-        block.remove_where(test);
+        block.get_mut().remove_where(test);
     }
 }
 
-/// The items of a page with one more.
-fn with_one<T: CopyOf + Drop>(
-    alloc: Global,
-    page: Page<T>,
-    j: usize,
-    item: T,
-) -> Result<Block<T>, Page<T>>
-    requires { j ≤ length (items_of page) }
-    ensures ok { IfOk result (λ block. block ≡ insert (items_of page) j item) }
-    ensures err { IfErr result (λ same. same ≡ page) }
-{
-    match page {
-        Page::Own(mut block) => match block.insert(j, item) {
-            Ok(()) => Ok(block),
-            Err(_) => Err(Page::Own(block)),
-        },
-        Page::Shared(shared) => match block_with(alloc, shared.as_slice(), j, item) {
-            Ok(block) => Ok(block),
-            Err(_) => Err(Page::Shared(shared)),
-        },
-    }
-}
-
-/// Puts an item at a place of a page.
+/// Puts an item at a place of a page, which is the list's own then. On Memory the page is as before.
 pub(crate) fn insert_into<T: CopyOf + Drop>(
     alloc: Global,
     page: &mut Page<T>,
@@ -147,33 +108,36 @@ pub(crate) fn insert_into<T: CopyOf + Drop>(
     ensures page { OnOk result (page.new ≡ with_item j item page.old) }
     ensures err { OnErr result (page.new ≡ page.old) }
 {
-    match with_one(alloc, take(alloc, page), j, item) {
-        Ok(block) => {
-            *page = Page::Own(block);
-            Ok(())
-        }
-        Err(same) => {
-            *page = same;
-            Err(Memory)
-        }
+    if let Page::Own(block) = page {
+        return block.get_mut().insert(j, item);
     }
+    let block = block_with(alloc, items(page), j, item)?;
+    *page = own_of(alloc, block)?;
+    Ok(())
 }
 
-/// Lets a page be the list's own.
+/// Lets a page be the list's own. On Memory it is as before.
 pub(crate) fn own<T: CopyOf + Drop>(alloc: Global, page: &mut Page<T>) -> Result<(), Memory>
     ensures page { OnOk result (page.new ≡ owned page.old) }
     ensures err { OnErr result (page.new ≡ page.old) }
     ensures own { is_own page.old ≡ true → IsOk result }
 {
-    match writable(alloc, take(alloc, page)) {
-        Ok(block) => {
-            *page = Page::Own(block);
-            Ok(())
-        }
-        Err(same) => {
-            *page = same;
-            Err(Memory)
-        }
+    if is_own(page) {
+        return Ok(());
+    }
+    let block = Block::copy_of(alloc, items(page))?;
+    *page = own_of(alloc, block)?;
+    Ok(())
+}
+
+/// A block to be shared, or given back where there is no memory for it.
+fn shared<T: Drop>(alloc: Global, block: Block<T>) -> Result<Arc<Block<T>>, Block<T>>
+    ensures ok { IfOk result (λ same. arc_value same ≡ block) }
+    ensures err { IfErr result (λ same. same ≡ block) }
+{
+    match Arc::new(alloc, block) {
+        Ok(shared) => Ok(shared),
+        Err(failed) => Err(failed.value),
     }
 }
 
@@ -181,16 +145,17 @@ pub(crate) fn own<T: CopyOf + Drop>(alloc: Global, page: &mut Page<T>) -> Result
 pub(crate) fn share<T: Drop>(alloc: Global, page: &mut Page<T>) -> Result<(), Memory>
     ensures { items_of page.new ≡ items_of page.old }
 {
-    match shared(alloc, take(alloc, page)) {
-        Ok(same) => {
-            *page = same;
-            Ok(())
-        }
-        Err(same) => {
-            *page = same;
-            Err(Memory)
+    if let Page::Own(own) = page {
+        let block = own.get_mut();
+        match shared(alloc, replace(block, Block::empty(alloc))) {
+            Ok(shared) => *page = Page::Shared(shared),
+            Err(same) => {
+                *block = same;
+                return Err(Memory);
+            }
         }
     }
+    Ok(())
 }
 
 /// A copy of the items with one more.
@@ -236,21 +201,7 @@ pub(crate) fn copy_page<T: CopyOf + Drop>(page: &Page<T>) -> Result<Page<T>, Mem
     ensures own { IfOk result (λ same. is_own same ≡ is_own page.now) }
 {
     match page {
-        Page::Own(block) => Ok(Page::Own(block.copy()?)),
+        Page::Own(block) => own_of(block.get().allocator(), block.get().copy()?),
         Page::Shared(shared) => Ok(Page::Shared(Arc::try_clone(shared)?)),
-    }
-}
-
-/// The page to be shared. It takes memory where it wasn't.
-fn shared<T: Drop>(alloc: Global, page: Page<T>) -> Result<Page<T>, Page<T>>
-    ensures ok { IfOk result (λ same. items_of same ≡ items_of page) }
-    ensures err { IfErr result (λ same. same ≡ page) }
-{
-    match page {
-        Page::Own(block) => match Arc::new(alloc, block) {
-            Ok(shared) => Ok(Page::Shared(shared)),
-            Err(failed) => Err(Page::Own(failed.value)),
-        },
-        Page::Shared(shared) => Ok(Page::Shared(shared)),
     }
 }

@@ -6,7 +6,9 @@ ghost use Rattle.pm_pages.specs.Listed.{items_of, listed, starts_from, piece, ed
 
 use crate::blocks::Block;
 use crate::copies::CopyOf;
-use crate::pages::{Page, copy_page, halves_with, insert_into, items, own, remove_from, share};
+use crate::pages::{
+    Page, copy_page, halves_with, insert_into, items, own, own_of, remove_from, share,
+};
 use pm_model::Memory;
 use std::alloc::Global;
 
@@ -53,10 +55,12 @@ pub(crate) fn split_at<T: CopyOf + Drop>(
 {
     let alloc = *pages.allocator();
     let page = &pages[k];
-    let (head, tail) = halves_with(alloc, items(page), j, item)?;
-    pages.insert(k + 1, Page::Own(tail))?;
+    let (first, second) = halves_with(alloc, items(page), j, item)?;
+    let head = own_of(alloc, first)?;
+    let tail = own_of(alloc, second)?;
+    pages.insert(k + 1, tail)?;
     let page = &mut pages[k];
-    *page = Page::Own(head);
+    *page = head;
     Ok(())
 }
 
@@ -67,7 +71,7 @@ pub(crate) fn push_page<T: Drop>(pages: &mut Vec<Page<T>>, item: T) -> Result<()
 {
     let alloc = *pages.allocator();
     let block = Block::one(alloc, item)?;
-    pages.push(Page::Own(block))?;
+    pages.push(own_of(alloc, block)?)?;
     Ok(())
 }
 

@@ -4,7 +4,7 @@ use Rattle.std.proofs.lemmas.Bool.{true≢false, false≢true, cases_eq}
 use Rattle.std.proofs.lemmas.List.{map-set, length-append, length-map}
 use Rattle.std.proofs.lemmas.Option.{slice_get-map, slice_get_read, slice_get_within}
 use Rattle.pm_reach.specs.Rows.{option_at, page_at, place_at, has}
-use Rattle.pm_reach.specs.Table.{words_of, shown, spare, page_rows, page_rooms, page_places, tabled, is_own, IsPushed, HasRoom, Writes}
+use Rattle.pm_reach.specs.Table.{words_of, spare, page_rows, page_rooms, page_places, tabled, is_own, IsPushed, HasRoom, Writes}
 use Rattle.pm_reach.specs.declared.shared.HeldPage.{HeldPage}
 use Rattle.pm_reach.specs.declared.shared.HeldPage.TheVariants.{Empty, Own, Shared}
 use Rattle.pm_reach.specs.declared.page.Page.{Page}

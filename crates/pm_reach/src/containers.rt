@@ -49,7 +49,7 @@ impl Containers {
         words::has(self.words.as_slice(), y)
     }
 
-    /// Puts y into it. It takes memory where it hasn't y, and copies share it. On Memory it is as before.
+    /// Puts y into it. It takes memory wherever it hasn't y. On Memory it is as before.
     pub(crate) fn put(&mut self, y: u32) -> Result<(), Memory>
         requires { y < most }
         ensures ok { OnOk result ((q : ℕ) → in_row self.new q ≡ (q == y || in_row self.old q)) }

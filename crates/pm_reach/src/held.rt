@@ -1,11 +1,12 @@
 //! What is shared is never written: an `Arc` gives its value only to a sole owner. So a change of one
 //! table never shows in another.
 
-ghost use Rattle.std.specs.Prelude.{◌≡◌, true};
+ghost use Rattle.std.specs.Prelude.{◌≡◌, true, IfOk, IfErr};
 ghost use Rattle.std.specs.Borrow.{Lends, sem};
 ghost use Rattle.pm_reach.specs.Sharing.{is_owned};
 ghost use Rattle.pm_reach.specs.Table.{value_of};
 
+use std::alloc::Global;
 use std::sync::Arc;
 
 /// What a table has.
@@ -39,5 +40,19 @@ pub(crate) fn read<T>(held: &Held<T>) -> &T
     match held {
         Held::Own(value) => value,
         Held::Shared(shared) => &**shared,
+    }
+}
+
+/// Lets it be shared. It takes memory where it wasn't.
+pub(crate) fn shared<T: Drop>(alloc: Global, held: Held<T>) -> Result<Held<T>, Held<T>>
+    ensures ok { IfOk result (λ same. value_of same ≡ value_of held) }
+    ensures err { IfErr result (λ same. same ≡ held) }
+{
+    match held {
+        Held::Own(value) => match Arc::new(alloc, value) {
+            Ok(shared) => Ok(Held::Shared(shared)),
+            Err(failed) => Err(Held::Own(failed.value)),
+        },
+        Held::Shared(shared) => Ok(Held::Shared(shared)),
     }
 }

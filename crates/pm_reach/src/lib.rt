@@ -8,7 +8,6 @@ mod containers;
 mod held;
 mod inside;
 mod laws;
-mod owned;
 mod page;
 mod reach;
 mod ready;

@@ -9,10 +9,10 @@ ghost use Rattle.pm_reach.specs.Table.{value_of, words_in, words_of, room_at, sh
 ghost use Rattle.pm_reach.specs.declared.held.Held.{Held};
 ghost use Rattle.pm_reach.specs.declared.page.Row.{Row};
 
-use crate::held::{Held, read};
-use crate::owned::Owned;
+use crate::held::{Held, read, shared};
 use crate::words;
 use pm_model::Memory;
+use pm_pages::Owned;
 use std::alloc::Global;
 use std::sync::Arc;
 
@@ -244,4 +244,36 @@ pub(crate) fn copy_rows(
         same.push(copy_place(alloc, place)?)?;
     }
     Ok(same)
+}
+
+/// Lets the row at a place be shared.
+fn share_row(rows: &mut Vec<Option<Held<Row>>>, j: usize) -> Result<(), Memory>
+    requires { IsSome (option_at rows.old.items j) }
+    ensures long { vec_len rows.new ≡ vec_len rows.old }
+    ensures rows { shown rows.new.items ≡ shown rows.old.items }
+{
+    let alloc = *rows.allocator();
+    let held = take_row(rows, j);
+    match shared(alloc, held) {
+        Ok(same) => {
+            put_row(rows, j, same);
+            Ok(())
+        }
+        Err(same) => {
+            put_row(rows, j, same);
+            Err(Memory)
+        }
+    }
+}
+
+/// Lets each row be shared.
+pub(crate) fn share_rows(rows: &mut Vec<Option<Held<Row>>>) -> Result<(), Memory>
+    ensures { shown rows.new.items ≡ shown rows.old.items }
+{
+    for j in 0..rows.len() {
+        if rows[j].is_some() {
+            share_row(rows, j)?;
+        }
+    }
+    Ok(())
 }

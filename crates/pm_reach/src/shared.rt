@@ -8,10 +8,10 @@ ghost use Rattle.pm_reach.specs.Rows.{option_at, row_has, most};
 ghost use Rattle.pm_reach.specs.Table.{words_in, words_of, words_behind, shown, shown_shared, page_rows};
 
 use crate::held::Held;
-use crate::owned::Owned;
 use crate::page::{Page, Row, copy_row, copy_rows, find_row};
 use crate::words;
 use pm_model::Memory;
+use pm_pages::Owned;
 use std::alloc::Global;
 use std::cmp::min;
 use std::sync::Arc;

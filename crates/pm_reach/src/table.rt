@@ -10,13 +10,14 @@ ghost use Rattle.pm_reach.specs.NewRows.{new_words, Fits};
 ghost use Rattle.pm_reach.specs.declared.shared.HeldPage.{HeldPage};
 ghost use Rattle.pm_reach.specs.declared.page.Page.{Page};
 
-use crate::owned::Owned;
 use crate::page::{
     Page, clear_row, join_row, overwrite_row, page_with, place_row, ready_row, reserve_place,
+    share_rows,
 };
 use crate::shared::{HeldPage, copy_of, find_in, mark_rows, own_page_of, shared_of};
 use crate::words;
 use pm_model::Memory;
+use pm_pages::Owned;
 use std::alloc::Global;
 use std::marker::Model;
 use std::mem::replace;
@@ -310,12 +311,25 @@ fn copy_pages(alloc: Global, pages: &[HeldPage]) -> Result<Vec<HeldPage>, Memory
     Ok(same)
 }
 
+/// Lets the rows of a page of the table's own be shared: none is copied.
+fn share_rows_at(pages: &mut Vec<HeldPage>, k: usize) -> Result<(), Memory>
+    requires { k < vec_len pages.old }
+    ensures long { vec_len pages.new ≡ vec_len pages.old }
+    ensures rows { map page_rows pages.new.items ≡ map page_rows pages.old.items }
+{
+    match &mut pages[k] {
+        HeldPage::Own(page) => share_rows(&mut page.get_mut().rows),
+        _ => Ok(()),
+    }
+}
+
 /// Lets a page and its rows be shared.
 fn share_at(pages: &mut Vec<HeldPage>, k: usize) -> Result<(), Memory>
     requires { k < vec_len pages.old }
     ensures long { vec_len pages.new ≡ vec_len pages.old }
     ensures rows { map page_rows pages.new.items ≡ map page_rows pages.old.items }
 {
+    share_rows_at(pages, k)?;
     let alloc = *pages.allocator();
     if let HeldPage::Own(page) = &pages[k] {
         let shared = shared_of(alloc, page)?;

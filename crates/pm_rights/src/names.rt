@@ -2,6 +2,7 @@
 
 ghost use Rattle.std.specs.Prelude.{◌≡◌, ◌≢◌, ◌<◌, ◌≤◌, [], ◌∷◌, ◌++◌, None, OnOk, OnErr, IfOk, IfErr, IfSome, length, slice_get, bytes_eq};
 ghost use Rattle.std.specs.List.{list_any};
+ghost use Rattle.std.specs.Arc.{arc_value};
 ghost use Rattle.pm_model.specs.Results.{first_of};
 ghost use Rattle.pm_model.specs.Effect.{IsCause};
 ghost use Rattle.pm_model.specs.RightSet.{opening_rights, define_checks, bit_named};
@@ -12,24 +13,37 @@ use crate::words::{is_command_word, opening_names};
 use pm_model::{Memory, Name};
 use std::alloc::Global;
 use std::marker::Model;
+use std::sync::Arc;
 
 const MAX_RIGHTS: usize = 64;
 
 /// The names of the rights by bit: the seventeen from the opening, then the defined ones in order of
-/// creation, at most 64 in all. Contracts see the list of the names.
+/// creation, at most 64 in all. Copies share them until a right is defined. Contracts see the list of the
+/// names.
 #[derive(Drop)]
 pub struct RightNames {
-    names: Vec<Name>,
+    names: Arc<Vec<Name>>,
 }
 
 impl Model for RightNames {
     ghost use Rattle.std.specs.Prelude.{List, ℕ, length, ◌≤◌};
+    ghost use Rattle.std.specs.Arc.{arc_value};
 
     ghost Value = { List (List ℕ) };
 
-    ghost view = { λ t. t.names.items };
+    ghost view = { λ t. (arc_value t.names).items };
 
-    ghost invariant = { λ t. length t.names.items ≤ 64 };
+    ghost invariant = { λ t. length (arc_value t.names).items ≤ 64 };
+}
+
+/// The names with one more, which no copy has.
+fn with_one(names: &Vec<Name>, name: Name) -> Result<Arc<Vec<Name>>, Memory>
+    ensures { IfOk result (λ more. (arc_value more).items ≡ names.now.items ++ name ∷ []) }
+{
+    let alloc = *names.allocator();
+    let mut more = Vec::from_slice(alloc, names.as_slice())?;
+    more.push(name)?;
+    Ok(Arc::new(alloc, more)?)
 }
 
 impl RightNames {
@@ -39,7 +53,7 @@ impl RightNames {
         ensures { IfOk result (λ names. names ≡ opening_rights) }
     {
         Ok(RightNames {
-            names: opening_names(alloc)?,
+            names: Arc::new(alloc, opening_names(alloc)?)?,
         })
     }
 
@@ -52,7 +66,13 @@ impl RightNames {
         ensures err { OnErr result (self.new ≡ self.old) }
     {
         self.check_define(name)?;
-        self.names.push(name).map_err(|_| RightsError::Memory)
+        match with_one(&self.names, name) {
+            Ok(names) => {
+                self.names = names;
+                Ok(())
+            }
+            Err(_) => Err(RightsError::Memory),
+        }
     }
 
     /// Whether a right of the name could be defined: `NameTaken` where a right has the name or it is
@@ -107,11 +127,9 @@ impl RightNames {
     pub fn copy(&self) -> Result<RightNames, Memory>
         ensures { IfOk result (λ same. same ≡ self.now) }
     {
-        let alloc = *self.names.allocator();
-        match Vec::from_slice(alloc, self.names.as_slice()) {
-            Ok(names) => Ok(RightNames { names }),
-            Err(_) => Err(Memory),
-        }
+        Ok(RightNames {
+            names: Arc::try_clone(&self.names)?,
+        })
     }
 
     /// The place of the name.

@@ -9,8 +9,8 @@ halves_with-requires g c =
 
 pub returns-clause-pages : goal.returns-clause-pages
 returns-clause-pages g c = record {
-  head = c.in_ok-head.head;
-  tail = c.in_ok-head.tail;
-  halves = rw (c.in_ok-head.ensures, c.items.ensures, ← piece_read items_of c.args.pages.now.items c.args.k c.index-page.result.now c.requires.page c.index-page.ensures) refl;
-  pages = rw c.in_ok-insert.ensures.items refl;
+  head = c.in_ok-first.first;
+  tail = c.in_ok-first.second;
+  halves = rw (c.in_ok-first.ensures, c.items.ensures, ← piece_read items_of c.args.pages.now.items c.args.k c.index-page.result.now c.requires.page c.index-page.ensures) refl;
+  pages = rw (c.in_ok-insert.ensures.items, c.in_ok-head.ensures, c.in_ok-tail.ensures) refl;
 }

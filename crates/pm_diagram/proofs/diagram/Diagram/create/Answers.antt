@@ -1,4 +1,4 @@
-use Rattle.std.proofs.Common.{length, arith}
+use Rattle.std.proofs.Common.{length, arith, sym, ◌∙◌}
 use Rattle.std.proofs.lemmas.Bool.{leb-false}
 use Rattle.pm_model.specs.Effect.{create_checks, max_elements}
 use Rattle.pm_model.specs.State.{element}
@@ -22,4 +22,4 @@ invariant_of-self-2 c =
     rw (c.in_ok-id.ensures.elements, c.in_ok-id.ensures.assigned, ← c.unused-x.ensures.number)
     (drawn-made c.self.inside.elements.elements c.self.inside.elements.assigned c.self.inside.rows.rows c.self.invariant
     (element c.unused-x.result c.args.kind c.args.name) c.follow_make.new.self.rows c.unused-x.ensures.number c.args.into
-    (rw (← c.self.view_is) at c.requires) (rw (c.in_ok-prepare.ensures.rows) at c.follow_make.ensures.rows))
+    (rw (← c.self.view_is) at c.requires) (rw (c.unused-x.ensures.number ∙ sym c.in_ok-id.ensures.number) c.in_ok-id.ensures.few) (rw (c.in_ok-prepare.ensures.rows) at c.follow_make.ensures.rows))

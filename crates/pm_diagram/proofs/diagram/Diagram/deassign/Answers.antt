@@ -1,10 +1,10 @@
-use Rattle.std.proofs.Common.{ap}
+use Rattle.std.proofs.Common.{ap, refl}
 use Rattle.std.proofs.lemmas.Bool.{not-false}
 use Rattle.std.specs.List.{list_any}
 use Rattle.pm_elements.specs.Listed.{Listed}
 use Rattle.pm_model.specs.Effect.{is_pair, deassign_checks}
 use Rattle.pm_laws.proofs.Checks.{passed}
-use Rattle.pm_diagram.proofs.Drawing.{drawn-beside, drawn-deassigned, told-without}
+use Rattle.pm_diagram.proofs.Drawing.{drawn-beside, drawn-deassigned, inside-listed, told-without}
 use Rattle.pm_diagram.proofs.diagram.Diagram.deassign.Goals as goal
 
 pub follow_deassign-requires-clause-was : goal.follow_deassign-requires-clause-was
@@ -31,3 +31,26 @@ invariant_of-self-2 c =
     rw (ap (λ (v : Listed). v.elements) less, ap (λ (v : Listed). v.assigned) less)
     (drawn-deassigned c.self.inside.elements.elements c.self.inside.elements.assigned c.self.inside.rows.rows c.self.invariant c.args.x c.args.y
     c.follow_deassign.new.self.rows (rw (c.in_ok-prepare.ensures.rows, ap (λ (v : Listed). v.assigned) less) at c.follow_deassign.ensures.rows))
+
+pub returns-then-is_inside_beside-clause-ok : goal.returns-then-is_inside_beside-clause-ok
+returns-then-is_inside_beside-clause-ok c =
+    let made = c.in_ok-deassign.ensures.ok in
+    rw (← c.self.view_is) (rw (
+      ap (λ (v : Listed). v.elements) made,
+      ap (λ (v : Listed). v.assigned) made,
+      c.count.ensures.written,
+      c.in_ok-kept.ensures,
+      inside-listed c.self.inside.elements.elements c.self.inside.elements.assigned c.self.inside.rows.rows c.self.invariant c.args.x,
+    ) refl)
+
+pub returns-clause-ok : goal.returns-clause-ok
+returns-clause-ok c =
+    let made = c.in_ok-deassign-2.ensures.ok in
+    rw (← c.self.view_is) (rw (
+      ap (λ (v : Listed). v.elements) made,
+      ap (λ (v : Listed). v.assigned) made,
+      c.follow_deassign.ensures.written,
+      c.in_ok-prepare.ensures.written,
+      c.in_ok-prepare.ensures.rows,
+      inside-listed c.self.inside.elements.elements c.self.inside.elements.assigned c.self.inside.rows.rows c.self.invariant c.args.x,
+    ) refl)

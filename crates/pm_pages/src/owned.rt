@@ -1,4 +1,4 @@
-//! A value behind a pointer, of which contracts see the value alone. So what has it or shares it takes two words.
+//! A value behind a pointer, of which contracts see the value alone. So what has a value or shares it takes two words.
 
 ghost use Rattle.std.specs.Prelude.{◌≡◌, IfOk};
 ghost use Rattle.std.specs.Borrow.{Lends, sem};
@@ -7,9 +7,9 @@ use pm_model::Memory;
 use std::alloc::Global;
 use std::marker::Model;
 
-/// A value of one's own.
+/// A value of one's own, on the heap.
 #[derive(Drop)]
-pub(crate) struct Owned<T> {
+pub struct Owned<T> {
     place: Box<T>,
 }
 
@@ -20,15 +20,17 @@ impl<T> Model for Owned<T> {
 }
 
 impl<T> Owned<T> {
-    ghost use Rattle.pm_reach.specs.contracts.owned.Owned.{the_row};
+    ghost use Rattle.pm_pages.specs.contracts.owned.Owned.{the_row};
 
-    pub(crate) fn get(&self) -> &T
+    /// The value, to be read.
+    pub fn get(&self) -> &T
         ensures { result.now ≡ self.now }
     {
         &*self.place
     }
 
-    pub(crate) fn get_mut(&mut self) -> &mut T
+    /// The value, to be written.
+    pub fn get_mut(&mut self) -> &mut T
         ensures* writes_back { sem 𝓛 (Lends (the_row T.row) T.row self.entry result (λ x. x)) }
         ensures value { self.old ≡ result.now }
     {
@@ -37,7 +39,8 @@ impl<T> Owned<T> {
 }
 
 impl<T: Drop> Owned<T> {
-    pub(crate) fn new(alloc: Global, value: T) -> Result<Self, Memory>
+    /// The value on the heap. On Memory it is dropped.
+    pub fn new(alloc: Global, value: T) -> Result<Self, Memory>
         ensures { IfOk result (λ same. same ≡ value) }
     {
         let place = Box::new(alloc, value)?;
