@@ -73,7 +73,7 @@ impl Tables {
         Ok((rights, procs, kept))
     }
 
-    /// The same tables once more. What is shared is not copied; the names of rights and the classes are.
+    /// The same tables once more. What is shared is not copied; the list of classes is.
     pub(crate) fn copy(&self) -> Result<Tables, Memory>
         ensures graph { IfOk result (λ same. graph_of same ≡ graph_of self.now) }
         ensures classes { IfOk result (λ same. same.classes ≡ self.now.classes) }
