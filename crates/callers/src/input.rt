@@ -15,8 +15,8 @@ pub(crate) struct Input {
 /// The request of a line; None where it is no request, or there is no memory.
 fn request_of(rt: &HostRuntime, line: &str) -> Option<Request> {
     let asked = read_request(rt.alloc(), line.as_bytes()).ok()?;
-    match asked.what {
-        What::Request(request) => Some(request),
+    match &asked.what {
+        What::Request(request) => request.copy().ok(),
         What::Bad(_) => None,
     }
 }

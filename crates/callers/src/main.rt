@@ -14,6 +14,7 @@ use pm_house::{Home, House, house_room};
 use pm_io::NoKeep;
 use pm_model::Memory;
 use pm_publish::Opened;
+use pm_step::Edition;
 use std::env;
 use std::env::Args;
 use std::marker::Brand;
@@ -54,7 +55,13 @@ fn run<H: Home + Send + Sync, R: Threads + Wait + Clock + AllocGlobal + Sync>(
     requires ledger { (blank.name ≡ H.name) × (blank.parts ≡ H.parts) }
     requires seats { (0 < seats) × (seats ≤ 32) × (H.all ≡ seats) × (H.parts ≡ seats) }
 {
-    let (house, mut left) = House::<NoKeep, H>::open(rt.alloc(), opened, blank, NoKeep, seats)?;
+    let (house, mut left) = House::<Edition, NoKeep, H>::open(
+        rt.alloc(),
+        opened,
+        blank,
+        NoKeep,
+        seats,
+    )?;
     let mut callers = callers_of(rt.alloc(), &mut left, amounts.looks, amounts.submits)?;
     make(rt, &house, &mut callers, input)?;
     work(rt, &house, &mut callers, input, amounts.rest);

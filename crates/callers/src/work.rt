@@ -6,7 +6,7 @@ use pm_house::{Home, House, Looked, Seat, Seats};
 use pm_io::NoKeep;
 use pm_model::{Memory, Reply, Request};
 use pm_publish::{Glimpse, NeverBack, Sealed};
-use pm_state::State;
+use pm_step::Edition;
 use std::alloc::Global;
 use std::sync::Wait;
 use std::sync::atomic::{AtomicU64, Ordering};
@@ -28,15 +28,15 @@ pub(crate) struct Counts {
 #[derive(Drop)]
 pub(crate) struct Caller<H: Home>
 where
-    NeverBack: Protocol<Sealed<State, H>, Glimpse>,
+    NeverBack: Protocol<Sealed<Edition, H>, Glimpse>,
 {
-    seat: Seat<H>,
+    seat: Seat<Edition, H>,
     looks: u64,
     submits: u64,
     done: Counts,
 }
 
-fn seated<H: Home>(seat: Seat<H>, looks: u64, submits: u64) -> Caller<H> {
+fn seated<H: Home>(seat: Seat<Edition, H>, looks: u64, submits: u64) -> Caller<H> {
     Caller {
         seat,
         looks,
@@ -53,7 +53,7 @@ fn seated<H: Home>(seat: Seat<H>, looks: u64, submits: u64) -> Caller<H> {
 /// A caller for each seat: the first submits, the others look.
 pub(crate) fn callers_of<H: Home>(
     alloc: Global,
-    seats: &mut Seats<H>,
+    seats: &mut Seats<Edition, H>,
     looks: u64,
     submits: u64,
 ) -> Result<Vec<Caller<H>>, Memory> {
@@ -86,7 +86,7 @@ fn look<H: Home, R: Threads + Sync>(rt: &R, caller: &mut Caller<H>, request: &Re
 
 fn submit<H: Home, R: Threads + Wait + AllocGlobal + Sync>(
     rt: &R,
-    house: &House<NoKeep, H>,
+    house: &House<Edition, NoKeep, H>,
     caller: &mut Caller<H>,
     request: &Request,
 ) -> Result<(), Memory> {
@@ -101,7 +101,7 @@ fn submit<H: Home, R: Threads + Wait + AllocGlobal + Sync>(
 /// The first caller makes the policy.
 pub(crate) fn make<H: Home, R: Threads + Wait + AllocGlobal + Sync>(
     rt: &R,
-    house: &House<NoKeep, H>,
+    house: &House<Edition, NoKeep, H>,
     callers: &mut Vec<Caller<H>>,
     input: &Input,
 ) -> Result<(), Memory> {
@@ -137,7 +137,7 @@ fn pause<R: Clock>(rt: &R, rest: u64) {
 // Rests so many milliseconds after each request. Stops once nobody looks any more, where somebody did.
 fn submit_on<H: Home, R: Threads + Wait + Clock + AllocGlobal + Sync>(
     rt: &R,
-    house: &House<NoKeep, H>,
+    house: &House<Edition, NoKeep, H>,
     caller: &mut Caller<H>,
     input: &Input,
     rest: u64,
@@ -161,7 +161,7 @@ fn submit_on<H: Home, R: Threads + Wait + Clock + AllocGlobal + Sync>(
 /// Each caller in a thread of its own.
 pub(crate) fn work<H: Home + Send + Sync, R: Threads + Wait + Clock + AllocGlobal + Sync>(
     rt: &R,
-    house: &House<NoKeep, H>,
+    house: &House<Edition, NoKeep, H>,
     callers: &mut Vec<Caller<H>>,
     input: &Input,
     rest: u64,

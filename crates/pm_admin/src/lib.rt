@@ -15,8 +15,6 @@ mod patterns;
 mod prohibiting;
 mod reviewing;
 mod rulings;
-#[cfg(test)]
-mod tests;
 
 pub use access::{acting, authorise_access};
 pub use events::{names_in, patterns_live, raised};

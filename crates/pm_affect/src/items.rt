@@ -9,10 +9,18 @@ use pm_model::{ElementId, Memory, PairList, Rights};
 use std::marker::Model;
 
 /// The list of a kept review, with what it is of.
-#[derive(Drop)]
 pub(crate) struct Item {
     subject: ElementId,
     pairs: Pairs,
+}
+
+impl Drop for Item {
+    fn drop(self) {
+        let Item {
+            subject: _,
+            pairs: _,
+        } = self;
+    }
 }
 
 impl Model for Item {

@@ -8,8 +8,6 @@ mod pairs;
 mod region;
 mod repair;
 mod sides;
-#[cfg(test)]
-mod tests;
 mod touching;
 
 pub use laws::{

@@ -20,11 +20,20 @@ use std::marker::Model;
 /// rights in it is empty.
 ///
 /// Copies share each list until one of them changes it, so that a copy costs a pointer for each list, however long it is.
-#[derive(Drop)]
 pub struct KeptLists {
     caps: Vec<Item>,
     entries: Vec<Item>,
     asked: u64,
+}
+
+impl Drop for KeptLists {
+    fn drop(self) {
+        let KeptLists {
+            caps: _,
+            entries: _,
+            asked: _,
+        } = self;
+    }
 }
 
 impl Model for KeptLists {

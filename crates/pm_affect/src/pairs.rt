@@ -10,9 +10,14 @@ use std::marker::Model;
 use std::sync::Arc;
 
 /// A list of pairs. Contracts see the list alone, and not whether other lists share it.
-#[derive(Drop)]
 pub(crate) struct Pairs {
     pointer: Arc<PairList>,
+}
+
+impl Drop for Pairs {
+    fn drop(self) {
+        let Pairs { pointer: _ } = self;
+    }
 }
 
 impl Model for Pairs {

@@ -10,12 +10,21 @@ use std::alloc::Global;
 use std::marker::Model;
 
 /// The set. A copy takes 12 bytes a word: 3 KB where the numbers are below 16,384.
-#[derive(Drop)]
 pub(crate) struct Holders {
     words: Vec<u64>,
     /// For each word, how many numbers stand in the words before it.
     before: Vec<u32>,
     count: usize,
+}
+
+impl Drop for Holders {
+    fn drop(self) {
+        let Holders {
+            words: _,
+            before: _,
+            count: _,
+        } = self;
+    }
 }
 
 impl Model for Holders {

@@ -10,6 +10,3 @@ mod table;
 
 pub use errors::{AssocError, change_error};
 pub use table::Assoc;
-
-#[cfg(test)]
-mod tests;

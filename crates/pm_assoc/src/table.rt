@@ -23,11 +23,20 @@ const ROOM: usize = 64;
 /// the user attributes that have associations, by rising number, each with its own in order of creation,
 /// and whether the table shares its pages with copies: where it stands alone, nothing is taken away at
 /// the cost of memory.
-#[derive(Drop)]
 pub struct Assoc {
     grantees: PageList<Grantee>,
     holders: Holders,
     count: usize,
+}
+
+impl Drop for Assoc {
+    fn drop(self) {
+        let Assoc {
+            grantees: _,
+            holders: _,
+            count: _,
+        } = self;
+    }
 }
 
 impl Model for Assoc {

@@ -12,8 +12,6 @@ ghost use Rattle.pm_decide.specs.Verdict.{decision};
 mod laws;
 mod prohibitions;
 mod rights;
-#[cfg(test)]
-mod tests;
 mod verdict;
 mod words;
 

@@ -8,6 +8,3 @@ mod table;
 
 pub use errors::{DenyError, change_error};
 pub use table::Deny;
-
-#[cfg(test)]
-mod tests;

@@ -24,9 +24,14 @@ const ROOM: usize = 64;
 
 /// The prohibitions in order of creation: at most 4,096. Contracts see the list, and whether it shares
 /// its pages with copies: where it stands alone, nothing is taken away at the cost of memory.
-#[derive(Drop)]
 pub struct Deny {
     items: PageList<Prohibition>,
+}
+
+impl Drop for Deny {
+    fn drop(self) {
+        let Deny { items: _ } = self;
+    }
 }
 
 impl Model for Deny {

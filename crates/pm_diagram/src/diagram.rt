@@ -27,10 +27,18 @@ use std::marker::Model;
 /// two lists, and how many rows were written since the opening: where an assignment comes or goes, that of
 /// each element that is contained in the one assigned; for an element that is made, its own, and once more
 /// where it is made in a container.
-#[derive(Drop)]
 pub struct Diagram {
     elements: Elements,
     rows: ReachRows,
+}
+
+impl Drop for Diagram {
+    fn drop(self) {
+        let Diagram {
+            elements: _,
+            rows: _,
+        } = self;
+    }
 }
 
 impl Model for Diagram {

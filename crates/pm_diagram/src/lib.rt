@@ -7,6 +7,3 @@ mod diagram;
 
 pub use containment::Containment;
 pub use diagram::Diagram;
-
-#[cfg(test)]
-mod tests;

@@ -12,9 +12,14 @@ use std::marker::Model;
 const FEW: usize = 2;
 
 /// The elements that one is assigned to, in order of assignment. Contracts see the list.
-#[derive(Drop)]
 pub(crate) struct Containers {
     numbers: SmallVec<u32, FEW>,
+}
+
+impl Drop for Containers {
+    fn drop(self) {
+        let Containers { numbers: _ } = self;
+    }
 }
 
 impl Model for Containers {

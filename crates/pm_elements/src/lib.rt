@@ -13,6 +13,3 @@ mod table;
 
 pub use errors::{ElementsError, change_error};
 pub use table::Elements;
-
-#[cfg(test)]
-mod tests;

@@ -14,12 +14,22 @@ use pm_pages::{CopyOf, LeafList};
 use std::alloc::Global;
 
 /// An element, what it is assigned to, and how many are assigned to it.
-#[derive(Drop)]
 pub(crate) struct Slot {
     pub kind: Kind,
     pub name: Name,
     pub parents: Containers,
     pub children: u32,
+}
+
+impl Drop for Slot {
+    fn drop(self) {
+        let Slot {
+            kind: _,
+            name: _,
+            parents: _,
+            children: _,
+        } = self;
+    }
 }
 
 /// The slots, in leaves that copies share.

@@ -31,12 +31,22 @@ use std::marker::Model;
 /// The live policy elements and their assignments. Contracts see the two lists, and whether the table
 /// stands alone: then it has shared nothing since it was made, and what takes something out wants no
 /// memory.
-#[derive(Drop)]
 pub struct Elements {
     slots: Slots,
     names: Names,
     live: usize,
     links: usize,
+}
+
+impl Drop for Elements {
+    fn drop(self) {
+        let Elements {
+            slots: _,
+            names: _,
+            live: _,
+            links: _,
+        } = self;
+    }
 }
 
 impl Model for Elements {

@@ -14,9 +14,14 @@ use std::sync::Wait;
 
 /// A queue between two ends, which their threads share by reference. Contracts see which queue it is, and how many items
 /// may wait in it. What still waits when it is dropped goes with it.
-#[derive(Drop)]
 pub struct Handoff<T: Numbered> {
     line: RuledArrayQueue<T, Known, InOrder>,
+}
+
+impl<T: Numbered + Drop> Drop for Handoff<T> {
+    fn drop(self) {
+        let Handoff { line: _ } = self;
+    }
 }
 
 impl<T: Numbered> Model for Handoff<T> {
@@ -28,9 +33,14 @@ impl<T: Numbered> Model for Handoff<T> {
 }
 
 /// The end that gives. Contracts see all numbers that it gave, in order, and those that it knows to be taken.
-#[derive(Drop)]
 pub struct Giver<T> {
     pass: Pass<T, Known>,
+}
+
+impl<T: Drop> Drop for Giver<T> {
+    fn drop(self) {
+        let Giver { pass: _ } = self;
+    }
 }
 
 impl<T> Model for Giver<T> {
@@ -46,9 +56,14 @@ impl<T> Model for Giver<T> {
 }
 
 /// The end that takes. Contracts see all numbers that it took, in order, and those that it knows to be given.
-#[derive(Drop)]
 pub struct Taker<T> {
     pass: Pass<T, Known>,
+}
+
+impl<T: Drop> Drop for Taker<T> {
+    fn drop(self) {
+        let Taker { pass: _ } = self;
+    }
 }
 
 impl<T> Model for Taker<T> {

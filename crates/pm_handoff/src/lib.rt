@@ -6,6 +6,3 @@ mod rule;
 
 pub use handoff::{Ends, Giver, Handoff, Refused, Taker};
 pub use rule::Numbered;
-
-#[cfg(test)]
-mod tests;

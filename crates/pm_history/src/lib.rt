@@ -14,9 +14,6 @@ use std::alloc::Global;
 use std::marker::Model;
 use thiserror::Error;
 
-#[cfg(test)]
-mod tests;
-
 /// After how many entries the leaves are shared in any case.
 const SHARED: usize = 1024;
 
@@ -32,12 +29,21 @@ pub enum HistoryError {
 /// Accepted requests, in order, up to a limit. A copy shares the entries, and neither sees what the
 /// other gets or lets go from then on. An entry is freed with the last history that has it; one that
 /// was taken back out is freed at the next push at the latest.
-#[derive(Drop)]
 pub struct History {
     /// Behind the first `count` there may be entries that were taken back.
     entries: LeafList<SharedEntry>,
     count: usize,
     limit: u64,
+}
+
+impl Drop for History {
+    fn drop(self) {
+        let History {
+            entries: _,
+            count: _,
+            limit: _,
+        } = self;
+    }
 }
 
 impl Model for History {

@@ -9,9 +9,14 @@ use std::marker::Model;
 use std::sync::Arc;
 
 /// An entry behind a pointer. Contracts see the entry alone.
-#[derive(Drop)]
 pub(crate) struct SharedEntry {
     pointer: Arc<Entry>,
+}
+
+impl Drop for SharedEntry {
+    fn drop(self) {
+        let SharedEntry { pointer: _ } = self;
+    }
 }
 
 impl Model for SharedEntry {

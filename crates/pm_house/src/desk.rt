@@ -2,10 +2,10 @@
 
 ghost use Rattle.std.specs.Prelude.{◌≡◌, ◌≢◌, ◌<◌, ◌≤◌, ◌+◌, [], ℕ, length, take, slice_index, replicate, OnOk, OnErr, IfOk, IfSome, MatchBool};
 ghost use mathlib.Core.List.{IsPrefix};
+ghost use Rattle.pm_machine.specs.Answered.{IsStep};
 ghost use Rattle.pm_model.specs.Answer.{longest_history};
 ghost use Rattle.pm_model.specs.Causes.{HasKeepCause};
 ghost use Rattle.pm_model.specs.History.{opening_machine};
-ghost use Rattle.pm_step.specs.Answered.{IsStep};
 ghost use Rattle.pm_world.specs.Seats.{count_by_seat};
 ghost use Rattle.pm_house.specs.Lanes.{entry_by};
 ghost use Rattle.pm_house.specs.Desks.{Comes, HasFaultCause, reply_told};
@@ -14,10 +14,9 @@ use crate::home::Home;
 use crate::lane::Lane;
 use crossbeam_utils::rule::Protocol;
 use left_right::Absorb;
+use pm_machine::{Stepped, Version};
 use pm_model::{Keep, KeepError, Memory, Reply, Request};
 use pm_publish::{Copies, Glimpse, NeverBack, Publisher, Sealed, Viewer};
-use pm_state::State;
-use pm_step::{Stepped, step};
 use std::alloc::Global;
 use std::marker::Model;
 use std::sync::Wait;
@@ -56,37 +55,53 @@ pub struct Submitted {
 
 /// Who alone accepts requests: it publishes the machine's versions, gives the entries to a keeper, holds the book of
 /// all seats' shares, and counts the entries of each seat. Contracts see the version that is published and the keeper.
-#[derive(Drop)]
-pub struct Desk<K: Keep + Drop, H: Home>
+pub struct Desk<V: Version, K: Keep + Drop, H: Home>
 where
-    NeverBack: Protocol<Sealed<State, H>, Glimpse>,
-    Sealed<State, H>: Absorb<Sealed<State, H>, State = State>,
+    NeverBack: Protocol<Sealed<V, H>, Glimpse>,
+    Sealed<V, H>: Absorb<Sealed<V, H>, State = V>,
 {
-    publisher: Publisher<State, H>,
-    latest: Option<Sealed<State, H>>,
+    publisher: Publisher<V, H>,
+    latest: Option<Sealed<V, H>>,
     keeper: K,
     book: Book<H>,
     counts: Vec<u64>,
 }
 
-impl<K: Keep + Drop, H: Home> Model for Desk<K, H>
+impl<V: Version, K: Keep + Drop, H: Home> Drop for Desk<V, K, H>
 where
-    NeverBack: Protocol<Sealed<State, H>, Glimpse>,
-    Sealed<State, H>: Absorb<Sealed<State, H>, State = State>,
+    NeverBack: Protocol<Sealed<V, H>, Glimpse>,
+    Sealed<V, H>: Absorb<Sealed<V, H>, State = V>,
 {
+    fn drop(self) {
+        let Desk {
+            publisher: _,
+            latest: _,
+            keeper: _,
+            book: _,
+            counts: _,
+        } = self;
+    }
+}
+
+impl<V: Version, K: Keep + Drop, H: Home> Model for Desk<V, K, H>
+where
+    NeverBack: Protocol<Sealed<V, H>, Glimpse>,
+    Sealed<V, H>: Absorb<Sealed<V, H>, State = V>,
+{
+    ghost use Rattle.std.specs.Prelude.{option_map};
     ghost use Rattle.pm_model.specs.History.{Machine};
     ghost use Rattle.pm_house.specs.Desks.{IsDesk};
 
     ghost Value = { Machine × K };
 
-    ghost view = { λ d. (d.publisher, d.keeper) };
+    ghost view = { λ d. (V.machine d.publisher, d.keeper) };
 
-    ghost invariant = { λ d. IsDesk d.publisher d.latest (K.kept d.keeper) d.book.total d.counts.items H.all };
+    ghost invariant = { λ d. IsDesk (V.machine d.publisher) (option_map V.machine d.latest) (K.kept d.keeper) d.book.total d.counts.items H.all };
 }
 
 // The next version, with all pointers that its publication takes. The version after it can share what it has.
-fn ready(alloc: Global, next: State) -> Result<Copies<State>, Memory>
-    ensures { IfOk result (λ c. c ≡ next) }
+fn ready<V: Version>(alloc: Global, next: V) -> Result<Copies<V>, Memory>
+    ensures { IfOk result (λ c. V.machine c ≡ V.machine next) }
 {
     let mut next = next;
     next.share()?;
@@ -94,11 +109,11 @@ fn ready(alloc: Global, next: State) -> Result<Copies<State>, Memory>
 }
 
 // Gives the last entry of this version to the keeper.
-fn keep_last<K: Keep>(keeper: &mut K, at: u64, next: &State) -> Result<(), KeepError>
+fn keep_last<V: Version, K: Keep>(keeper: &mut K, at: u64, next: &V) -> Result<(), KeepError>
     requires room { at < longest_history }
-    requires last { length next.now.history ≡ at + 1 }
-    requires kept { IfSome (K.kept keeper.old) (λ es. es ≡ take at next.now.history) }
-    ensures ok { OnOk result (IfSome (K.kept keeper.new) (λ es. es ≡ next.now.history)) }
+    requires last { length (V.machine next.now).history ≡ at + 1 }
+    requires kept { IfSome (K.kept keeper.old) (λ es. es ≡ take at (V.machine next.now).history) }
+    ensures ok { OnOk result (IfSome (K.kept keeper.new) (λ es. es ≡ (V.machine next.now).history)) }
     ensures err { OnErr result (K.kept keeper.new ≡ K.kept keeper.old) }
     ensures cause { HasKeepCause (K.faults keeper.old) (K.faults keeper.new) result }
 {
@@ -130,22 +145,22 @@ fn zeros(alloc: Global, count: u32) -> Result<Vec<u64>, Memory>
 
 // Before any entry there is one version, and whoever holds a version of no entry holds it.
 #[tactic(auto, using(crate::proofs::Counting::empty_is_opening))]
-fn shows_opening<H: Home>(viewer: &Viewer<State, H>) -> bool
-    ensures { MatchBool result (viewer.now.shown ≡ opening_machine) (Unit {0}) }
+fn shows_opening<V: Version, H: Home>(viewer: &Viewer<V, H>) -> bool
+    ensures { MatchBool result (V.machine viewer.now.shown ≡ opening_machine) (Unit {0}) }
 {
-    viewer.shown().replayed();
+    viewer.shown().known();
     viewer.shown().version() == 0
 }
 
-impl<K: Keep + Drop, H: Home> Desk<K, H> {
+impl<V: Version, K: Keep + Drop, H: Home> Desk<V, K, H> {
     pub(crate) fn new(
         alloc: Global,
-        publisher: Publisher<State, H>,
+        publisher: Publisher<V, H>,
         book: Book<H>,
         keeper: K,
         seats: u32,
-    ) -> Result<Desk<K, H>, Memory>
-        requires published { publisher ≡ opening_machine }
+    ) -> Result<Desk<V, K, H>, Memory>
+        requires published { V.machine publisher ≡ opening_machine }
         requires book { book.total ≡ 0 }
         requires seats { H.all ≡ seats }
         requires keeper { IfSome (K.kept keeper) (λ es. es ≡ []) }
@@ -162,8 +177,8 @@ impl<K: Keep + Drop, H: Home> Desk<K, H> {
     }
 
     /// The version that is published.
-    pub fn shown(&self) -> &State
-        ensures { result.now ≡ self.now.0 }
+    pub fn shown(&self) -> &V
+        ensures { V.machine result.now ≡ self.now.0 }
     {
         self.publisher.shown()
     }
@@ -188,8 +203,8 @@ impl<K: Keep + Drop, H: Home> Desk<K, H> {
 
     // Tells a viewer the version that is published. False where what it holds is longer, or there are as many pointers
     // to the version as can be counted: then it is as before.
-    pub(crate) fn tell(&self, viewer: &mut Viewer<State, H>) -> bool
-        ensures { MatchBool result ((viewer.new.shown ≡ self.now.0) × IsPrefix viewer.old.shown.history viewer.new.shown.history) (viewer.new ≡ viewer.old) }
+    pub(crate) fn tell(&self, viewer: &mut Viewer<V, H>) -> bool
+        ensures { MatchBool result ((V.machine viewer.new.shown ≡ self.now.0) × IsPrefix (V.machine viewer.old.shown).history (V.machine viewer.new.shown).history) (viewer.new ≡ viewer.old) }
     {
         match &self.latest {
             None => shows_opening(viewer),
@@ -201,8 +216,8 @@ impl<K: Keep + Drop, H: Home> Desk<K, H> {
     }
 
     // Tells a viewer the version that is published, as soon as that can be.
-    pub(crate) fn show<R: Wait>(&self, rt: &R, viewer: &mut Viewer<State, H>)
-        ensures { viewer.new.shown ≡ self.now.0 }
+    pub(crate) fn show<R: Wait>(&self, rt: &R, viewer: &mut Viewer<V, H>)
+        ensures { V.machine viewer.new.shown ≡ self.now.0 }
     {
         for _ in rt.forever() {
             if self.tell(viewer) {
@@ -218,26 +233,26 @@ impl<K: Keep + Drop, H: Home> Desk<K, H> {
         rt: &R,
         lane: &Lane<H>,
         request: &Request,
-    ) -> Result<Stepped, Memory>
+    ) -> Result<Stepped<V>, Memory>
         requires { lane.now.share ≡ count_by_seat lane.now.seat self.now.0.history }
-        ensures { IfOk result (IsStep self.now.0 (entry_by lane.now request.now)) }
+        ensures { IfOk result (IsStep V.machine self.now.0 (entry_by lane.now request.now)) }
     {
         let nth = self.number_of(lane.seat()) + 1;
-        step(rt, self.shown(), lane.seat(), nth, request)
+        self.shown().step(rt, lane.seat(), nth, request)
     }
 
-    // Publishes the next state, once its last entry is kept. All memory is taken before the keeper is asked.
+    // Publishes the next version, once its last entry is kept. All memory is taken before the keeper is asked.
     fn enter<R: Wait>(
         &mut self,
         rt: &R,
         alloc: Global,
         lane: &mut Lane<H>,
         request: &Request,
-        next: State,
+        next: V,
         reply: Reply,
     ) -> Result<Outcome, Memory>
         requires share { lane.old.share ≡ count_by_seat lane.old.seat self.old.0.history }
-        requires step { IsStep self.old.0 (entry_by lane.old request.now) (Stepped.Accepted next reply) }
+        requires step { IsStep V.machine self.old.0 (entry_by lane.old request.now) (Stepped.Accepted next reply) }
         ensures outcome { IfOk result (Comes self.old.0 self.new.0 lane.old lane.new request.now) }
         ensures cause { IfOk result (HasFaultCause (K.faults self.old.1) (K.faults self.new.1)) }
         ensures err { OnErr result ((self.new.0 ≡ self.old.0) × (lane.new ≡ lane.old)) }

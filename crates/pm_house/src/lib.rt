@@ -16,6 +16,3 @@ pub use lane::Lane;
 pub use opening::house_room;
 pub use seat::{Looked, Replied, Seat};
 pub use seats::Seats;
-
-#[cfg(test)]
-mod tests;

@@ -2,7 +2,7 @@
 
 ghost use Rattle.std.specs.Prelude.{◌≡◌, ◌≢◌, length, true, IsOk, IfNone, IfSome, OnErr, IfOk, MatchBool};
 ghost use Rattle.pm_model.specs.History.{opening_machine};
-ghost use Rattle.pm_step.specs.Asking.{asks_freely};
+ghost use Rattle.pm_machine.specs.Asking.{asks_freely};
 ghost use Rattle.pm_house.specs.Desks.{NeverFails};
 ghost use Rattle.pm_house.specs.Seated.{seated, IsSeat, Looks, Rests, Submits};
 
@@ -11,20 +11,27 @@ use crate::home::Home;
 use crate::house::House;
 use crate::lane::Lane;
 use crossbeam_utils::rule::Protocol;
+use pm_machine::{Glance, Version};
 use pm_model::{Keep, Memory, Reply, Request};
 use pm_publish::{Glimpse, NeverBack, Sealed, Viewer};
-use pm_state::State;
-use pm_step::{Glance, glance};
 use std::alloc::Global;
 use std::marker::Model;
 use std::sync::Wait;
 use std::thread::Threads;
 
 /// What a seat was told by the desk: a reply, and the version that it was made from or made.
-#[derive(Drop)]
 pub struct Replied {
     pub reply: Reply,
     pub version: u64,
+}
+
+impl Drop for Replied {
+    fn drop(self) {
+        let Replied {
+            reply: _,
+            version: _,
+        } = self;
+    }
 }
 
 /// What a seat saw by itself.
@@ -39,34 +46,46 @@ pub enum Looked {
 /// A caller of a house: a lane, and a viewer that holds a version, whose history is the seat's front. Up to its mark,
 /// which a look leaves, the seat knows all its entries: its share counts them. Of what the front holds past the mark, it
 /// was told nothing. Contracts see lane, mark and version.
-#[derive(Drop)]
-pub struct Seat<H: Home>
+pub struct Seat<V: Version, H: Home>
 where
-    NeverBack: Protocol<Sealed<State, H>, Glimpse>,
+    NeverBack: Protocol<Sealed<V, H>, Glimpse>,
 {
-    viewer: Viewer<State, H>,
+    viewer: Viewer<V, H>,
     lane: Lane<H>,
     mark: u64,
 }
 
-impl<H: Home> Model for Seat<H>
+impl<V: Version, H: Home> Drop for Seat<V, H>
 where
-    NeverBack: Protocol<Sealed<State, H>, Glimpse>,
+    NeverBack: Protocol<Sealed<V, H>, Glimpse>,
+{
+    fn drop(self) {
+        let Seat {
+            viewer: _,
+            lane: _,
+            mark: _,
+        } = self;
+    }
+}
+
+impl<V: Version, H: Home> Model for Seat<V, H>
+where
+    NeverBack: Protocol<Sealed<V, H>, Glimpse>,
 {
     ghost use Rattle.pm_house.specs.Seated.{Seated, seated, IsSeat};
 
     ghost Value = { Seated };
 
-    ghost view = { λ s. seated s.lane s.mark s.viewer.shown };
+    ghost view = { λ s. seated s.lane s.mark (V.machine s.viewer.shown) };
 
-    ghost invariant = { λ s. IsSeat (seated s.lane s.mark s.viewer.shown) };
+    ghost invariant = { λ s. IsSeat (seated s.lane s.mark (V.machine s.viewer.shown)) };
 }
 
-impl<H: Home> Seat<H> {
-    pub(crate) fn new(lane: Lane<H>, viewer: Viewer<State, H>) -> Seat<H>
+impl<V: Version, H: Home> Seat<V, H> {
+    pub(crate) fn new(lane: Lane<H>, viewer: Viewer<V, H>) -> Seat<V, H>
         requires lane { lane.share ≡ 0 }
-        requires viewer { viewer.shown ≡ opening_machine }
-        ensures { result ≡ seated lane 0 viewer.shown }
+        requires viewer { V.machine viewer.shown ≡ opening_machine }
+        ensures { result ≡ seated lane 0 (V.machine viewer.shown) }
     {
         Seat {
             viewer,
@@ -90,8 +109,8 @@ impl<H: Home> Seat<H> {
     }
 
     /// The version that it holds, until it looks again or asks the desk.
-    pub fn shown(&self) -> &State
-        ensures { result.now ≡ self.now.machine }
+    pub fn shown(&self) -> &V
+        ensures { V.machine result.now ≡ self.now.machine }
     {
         self.viewer.shown()
     }
@@ -102,7 +121,7 @@ impl<H: Home> Seat<H> {
         ensures rests { Rests self.now self.now }
         ensures kept { IsSeat self.now }
     {
-        self.viewer.shown().replayed();
+        self.viewer.shown().known();
     }
 
     // Enters what is published.
@@ -111,7 +130,7 @@ impl<H: Home> Seat<H> {
         ensures mark { self.new.mark ≡ self.old.mark }
     {
         self.viewer.look();
-        self.viewer.shown().replayed();
+        self.viewer.shown().known();
     }
 
     /// A look at what is published, and the machine's answer to the request at the version that the seat then shows, or
@@ -125,9 +144,9 @@ impl<H: Home> Seat<H> {
         ensures free { asks_freely request.now.body ≡ true → IsOk result }
     {
         self.enter();
-        self.shown().replayed();
+        self.shown().known();
         let version = self.shown().version();
-        match glance(rt, self.shown(), request) {
+        match self.shown().glance(rt, request) {
             Ok(Glance::Answer(reply)) => Ok(Looked::Answer { reply, version }),
             Ok(Glance::NeedsDesk) => Ok(Looked::GoDesk),
             Err(Memory) => Err(Memory),
@@ -146,12 +165,12 @@ impl<H: Home> Seat<H> {
 
     // The desk tells the seat its version, whose history is then its front, up to the mark. False where the seat has made
     // entries of which the desk doesn't know, or can't be told now: then it is as before.
-    pub(crate) fn catch_up<K: Keep + Drop>(&mut self, desk: &Desk<K, H>) -> bool
+    pub(crate) fn catch_up<K: Keep + Drop>(&mut self, desk: &Desk<V, K, H>) -> bool
         ensures rests { Rests self.old self.new }
         ensures there { MatchBool result (self.new ≡ seated self.old.lane (length desk.now.0.history) desk.now.0) (self.new ≡ self.old) }
     {
-        self.viewer.shown().replayed();
-        desk.shown().replayed();
+        self.viewer.shown().known();
+        desk.shown().known();
         if desk.number_of(self.lane.seat()) != self.lane.made() {
             return false;
         }
@@ -167,7 +186,7 @@ impl<H: Home> Seat<H> {
         &mut self,
         rt: &R,
         alloc: Global,
-        desk: &mut Desk<K, H>,
+        desk: &mut Desk<V, K, H>,
         request: &Request,
     ) -> Result<Replied, Memory>
         requires shown { self.old.machine ≡ desk.old.0 }
@@ -176,10 +195,10 @@ impl<H: Home> Seat<H> {
         ensures calm { IfOk result (λ r. NeverFails K.faults → r.reply ≢ Reply.KeepFault) }
         ensures err { OnErr result (self.new ≡ self.old) }
     {
-        self.viewer.shown().replayed();
+        self.viewer.shown().known();
         let submitted = desk.accept(rt, alloc, &mut self.lane, request)?;
         desk.show(rt, &mut self.viewer);
-        self.viewer.shown().replayed();
+        self.viewer.shown().known();
         let Submitted { outcome, version } = submitted;
         self.mark = version;
         Ok(Replied {
@@ -194,7 +213,7 @@ impl<H: Home> Seat<H> {
         &mut self,
         rt: &R,
         alloc: Global,
-        house: &House<K, H>,
+        house: &House<V, K, H>,
         request: &Request,
     ) -> Result<Option<Replied>, Memory>
         ensures some { IfOk result (λ o. IfSome o (λ r. Submits self.old self.new request.now r.reply r.version)) }
@@ -219,7 +238,7 @@ impl<H: Home> Seat<H> {
         &mut self,
         rt: &R,
         alloc: Global,
-        house: &House<K, H>,
+        house: &House<V, K, H>,
         request: &Request,
     ) -> Result<Replied, Memory>
         ensures ok { IfOk result (λ r. Submits self.old self.new request.now r.reply r.version) }
@@ -238,6 +257,6 @@ impl<H: Home> Seat<H> {
 
 fn sent<T: Send + Drop>(_value: T) {}
 
-fn seat_is_sent<H: Home + Send + Sync>(seat: Seat<H>) {
+fn seat_is_sent<V: Version + Send + Sync, H: Home + Send + Sync>(seat: Seat<V, H>) {
     sent(seat)
 }

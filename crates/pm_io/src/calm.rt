@@ -14,10 +14,15 @@ use std::collections::VecDeque;
 use std::marker::Model;
 
 /// Bytes in memory. No read fails.
-#[derive(Drop)]
 pub struct CalmSource {
     bytes: VecDeque<u8>,
     ends: u64,
+}
+
+impl Drop for CalmSource {
+    fn drop(self) {
+        let CalmSource { bytes: _, ends: _ } = self;
+    }
 }
 
 impl Model for CalmSource {
@@ -65,11 +70,20 @@ impl Source for CalmSource {
 
 /// Takes bytes in memory, up to its room, and then none. No write fails, but one that takes none of
 /// a piece that isn't empty counts as a fault.
-#[derive(Drop)]
 pub struct CalmSink {
     taken: Vec<u8>,
     room: usize,
     faults: u64,
+}
+
+impl Drop for CalmSink {
+    fn drop(self) {
+        let CalmSink {
+            taken: _,
+            room: _,
+            faults: _,
+        } = self;
+    }
 }
 
 impl Model for CalmSink {

@@ -9,10 +9,18 @@ use std::alloc::Global;
 use std::marker::Model;
 
 /// Which calls are to fail, by their numbers from 1 on. Contracts see these and the number of calls so far.
-#[derive(Drop)]
 pub(crate) struct Schedule {
     failing: Vec<u64>,
     calls: u64,
+}
+
+impl Drop for Schedule {
+    fn drop(self) {
+        let Schedule {
+            failing: _,
+            calls: _,
+        } = self;
+    }
 }
 
 impl Model for Schedule {

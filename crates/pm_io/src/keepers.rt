@@ -11,11 +11,20 @@ use std::alloc::Global;
 use std::marker::Model;
 
 /// Entries in memory. The calls whose numbers it was given fail, and no others.
-#[derive(Drop)]
 pub struct MemKeep {
     entries: ItemList<Entry>,
     schedule: Schedule,
     faults: u64,
+}
+
+impl Drop for MemKeep {
+    fn drop(self) {
+        let MemKeep {
+            entries: _,
+            schedule: _,
+            faults: _,
+        } = self;
+    }
 }
 
 impl Model for MemKeep {

@@ -20,6 +20,3 @@ pub use mem_link::MemLink;
 pub use memory::{MemSink, MemSource};
 pub use mio_link::MioLink;
 pub use streams::{StdSink, StdSource};
-
-#[cfg(test)]
-mod tests;

@@ -16,7 +16,6 @@ use std::marker::Model;
 
 /// Bytes in memory, and room for bytes. The calls whose numbers it was given fail or can do nothing; of the others a
 /// write fails where there is no room left.
-#[derive(Drop)]
 pub struct MemLink {
     bytes: VecDeque<u8>,
     pieces: VecDeque<u32>,
@@ -27,6 +26,22 @@ pub struct MemLink {
     faults: u64,
     read_agains: u64,
     write_agains: u64,
+}
+
+impl Drop for MemLink {
+    fn drop(self) {
+        let MemLink {
+            bytes: _,
+            pieces: _,
+            taken: _,
+            room: _,
+            agains: _,
+            schedule: _,
+            faults: _,
+            read_agains: _,
+            write_agains: _,
+        } = self;
+    }
 }
 
 impl Model for MemLink {

@@ -15,12 +15,22 @@ use std::collections::VecDeque;
 use std::marker::Model;
 
 /// Bytes in memory. The read calls whose numbers it was given fail, and no others.
-#[derive(Drop)]
 pub struct MemSource {
     bytes: VecDeque<u8>,
     schedule: Schedule,
     faults: u64,
     ends: u64,
+}
+
+impl Drop for MemSource {
+    fn drop(self) {
+        let MemSource {
+            bytes: _,
+            schedule: _,
+            faults: _,
+            ends: _,
+        } = self;
+    }
 }
 
 impl Model for MemSource {
@@ -76,12 +86,22 @@ impl Source for MemSource {
 
 /// Takes bytes in memory, up to its room, and then none. The write calls whose numbers it was given
 /// fail, and no others.
-#[derive(Drop)]
 pub struct MemSink {
     taken: Vec<u8>,
     room: usize,
     schedule: Schedule,
     faults: u64,
+}
+
+impl Drop for MemSink {
+    fn drop(self) {
+        let MemSink {
+            taken: _,
+            room: _,
+            schedule: _,
+            faults: _,
+        } = self;
+    }
 }
 
 impl Model for MemSink {

@@ -11,12 +11,22 @@ use std::marker::Model;
 
 /// A stream that doesn't wait, with the counts of a link. It tells no content: that is the system's. A read or a write
 /// that would wait is an Again, and each other error is a fault.
-#[derive(Drop)]
 pub struct MioLink {
     stream: TcpStream,
     faults: u64,
     read_agains: u64,
     write_agains: u64,
+}
+
+impl Drop for MioLink {
+    fn drop(self) {
+        let MioLink {
+            stream: _,
+            faults: _,
+            read_agains: _,
+            write_agains: _,
+        } = self;
+    }
 }
 
 impl Model for MioLink {

@@ -12,8 +12,6 @@ mod refusals;
 mod responses;
 mod rows;
 mod terms;
-#[cfg(test)]
-mod tests;
 
 pub use laws::{command_word_is_taken, line_has_one_meaning, lists_are_kept, reply_is_short};
 pub use print::{LONGEST_REPLY, longest, print_bad, print_reply};

@@ -17,9 +17,14 @@ pub(crate) enum Held {
 }
 
 /// A list of changes. Contracts see the list alone, and not whether other tables have it too.
-#[derive(Drop)]
 pub(crate) struct Changes {
     held: Held,
+}
+
+impl Drop for Changes {
+    fn drop(self) {
+        let Changes { held: _ } = self;
+    }
 }
 
 impl Model for Changes {

@@ -9,12 +9,22 @@ use std::alloc::Global;
 use std::marker::Model;
 
 /// A review that is kept.
-#[derive(Drop)]
 pub(crate) struct Item {
     number: u32,
     of: ReviewOf<ElementId>,
     at: u64,
     changed: Changes,
+}
+
+impl Drop for Item {
+    fn drop(self) {
+        let Item {
+            number: _,
+            of: _,
+            at: _,
+            changed: _,
+        } = self;
+    }
 }
 
 impl Model for Item {

@@ -10,6 +10,3 @@ mod table;
 
 pub use errors::{KeptError, change_error};
 pub use table::KeptReviews;
-
-#[cfg(test)]
-mod tests;

@@ -19,9 +19,14 @@ use std::marker::Model;
 /// The kept reviews by rising number, at most 256: a review takes the least number that none has, so each number is below
 /// 256. Contracts see the list. Copies share the lists of changes once `share` was called, so that a copy costs a few
 /// numbers and a pointer for each review, however long these lists are.
-#[derive(Drop)]
 pub struct KeptReviews {
     items: Vec<Item>,
+}
+
+impl Drop for KeptReviews {
+    fn drop(self) {
+        let KeptReviews { items: _ } = self;
+    }
 }
 
 impl Model for KeptReviews {

@@ -131,10 +131,15 @@ impl Act {
 }
 
 /// A part of a response: what is done where each of the guards holds. At most 4 guards.
-#[derive(Drop)]
 pub struct Action {
     pub guards: GuardList,
     pub act: Act,
+}
+
+impl Drop for Action {
+    fn drop(self) {
+        let Action { guards: _, act: _ } = self;
+    }
 }
 
 impl Action {

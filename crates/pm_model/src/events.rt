@@ -38,9 +38,14 @@ pub struct When {
 }
 
 /// The same, kept apart from what it stands in, which so stays small. Contracts see what is kept.
-#[derive(Drop)]
 pub struct Awaited {
     when: Box<When>,
+}
+
+impl Drop for Awaited {
+    fn drop(self) {
+        let Awaited { when: _ } = self;
+    }
 }
 
 impl Model for Awaited {

@@ -41,6 +41,3 @@ pub use reviews::{ChangeList, Changed, CountList, Pair, PairList, ReviewOf};
 pub use rights::{Association, Grant, Grantee, Rights, is_access_right};
 pub use sessions::{Process, Session};
 pub use words::{Key, Word};
-
-#[cfg(test)]
-mod tests;

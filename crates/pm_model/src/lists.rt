@@ -13,9 +13,14 @@ use std::alloc::Global;
 use std::marker::Model;
 
 /// A list. Contracts see the list alone, and not the room that it has.
-#[derive(Drop)]
 pub struct ItemList<T> {
     items: Vec<T>,
+}
+
+impl<T: Drop> Drop for ItemList<T> {
+    fn drop(self) {
+        let ItemList { items: _ } = self;
+    }
 }
 
 impl<T> Model for ItemList<T> {

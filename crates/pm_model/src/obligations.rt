@@ -27,9 +27,14 @@ pub enum ResponseError {
 }
 
 /// What an obligation does: 1 to 32 actions, one after another, with at most 100 names in all. Contracts see the list.
-#[derive(Drop)]
 pub struct Response {
     actions: ActionList,
+}
+
+impl Drop for Response {
+    fn drop(self) {
+        let Response { actions: _ } = self;
+    }
 }
 
 impl Model for Response {
@@ -81,12 +86,22 @@ impl Response {
 }
 
 /// An obligation: when an event of the pattern happens, the response is done by the author's authority.
-#[derive(Drop)]
 pub struct Obligation {
     pub name: Name,
     pub author: ElementId,
     pub pattern: Pattern,
     pub response: Response,
+}
+
+impl Drop for Obligation {
+    fn drop(self) {
+        let Obligation {
+            name: _,
+            author: _,
+            pattern: _,
+            response: _,
+        } = self;
+    }
 }
 
 impl Obligation {

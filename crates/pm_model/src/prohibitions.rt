@@ -27,7 +27,6 @@ pub enum Subject<N, P> {
 }
 
 /// A prohibition: it denies its subject these rights on what lies in its range.
-#[derive(Drop)]
 pub struct Prohibition {
     pub name: Name,
     pub subject: Subject<ElementId, u32>,
@@ -35,6 +34,19 @@ pub struct Prohibition {
     pub inc: PlaceList,
     pub exc: PlaceList,
     pub mode: Mode,
+}
+
+impl Drop for Prohibition {
+    fn drop(self) {
+        let Prohibition {
+            name: _,
+            subject: _,
+            rights: _,
+            inc: _,
+            exc: _,
+            mode: _,
+        } = self;
+    }
 }
 
 impl Prohibition {

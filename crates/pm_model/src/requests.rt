@@ -339,10 +339,15 @@ impl Body {
 }
 
 /// A request: what is asked, and the version that the machine must have reached, where one is given.
-#[derive(Drop)]
 pub struct Request {
     pub after: Option<u64>,
     pub body: Body,
+}
+
+impl Drop for Request {
+    fn drop(self) {
+        let Request { after: _, body: _ } = self;
+    }
 }
 
 impl Request {
@@ -359,13 +364,22 @@ impl Request {
 }
 
 /// An accepted request, as the history keeps it.
-#[derive(Drop)]
 pub struct Entry {
     /// Who asked: each caller has a seat with a number of its own.
     pub seat: u32,
     /// Which entry of its seat it is, from 1.
     pub nth: u64,
     pub request: Request,
+}
+
+impl Drop for Entry {
+    fn drop(self) {
+        let Entry {
+            seat: _,
+            nth: _,
+            request: _,
+        } = self;
+    }
 }
 
 impl Entry {
@@ -390,8 +404,13 @@ pub enum What {
 }
 
 /// What a line asks, and the line's id, which its reply repeats.
-#[derive(Drop)]
 pub struct Asked {
     pub id: Option<u64>,
     pub what: What,
+}
+
+impl Drop for Asked {
+    fn drop(self) {
+        let Asked { id: _, what: _ } = self;
+    }
 }

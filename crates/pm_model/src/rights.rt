@@ -76,8 +76,13 @@ pub struct Grant {
 }
 
 /// The associations of one user attribute, in order of creation.
-#[derive(Drop)]
 pub struct Grantee {
     pub ua: ElementId,
     pub grants: ItemList<Grant>,
+}
+
+impl Drop for Grantee {
+    fn drop(self) {
+        let Grantee { ua: _, grants: _ } = self;
+    }
 }

@@ -1,10 +1,8 @@
-//! The numbers of elements by name, in lists that copies share.
+//! The numbers of elements by name, in maps that copies share.
 #![tactic(auto)]
 
-mod entries;
 mod names;
+mod shard;
+mod shards;
 
 pub use names::Names;
-
-#[cfg(test)]
-mod tests;

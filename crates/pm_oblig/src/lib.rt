@@ -17,6 +17,3 @@ pub use fresh::fresh_name;
 pub use laws::responses_computed;
 pub use table::Obligations;
 pub use targets::{TargetWord, Targets};
-
-#[cfg(test)]
-mod tests;

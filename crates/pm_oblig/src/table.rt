@@ -23,10 +23,15 @@ const ROOM: usize = 16;
 
 /// The obligations in order of creation: at most 1,024. Contracts see the list, and whether it shares its pages with
 /// copies: where it stands alone, nothing is taken away at the cost of memory.
-#[derive(Drop)]
 pub struct Obligations {
     items: PageList<Obligation>,
     known: PageList<Targets>,
+}
+
+impl Drop for Obligations {
+    fn drop(self) {
+        let Obligations { items: _, known: _ } = self;
+    }
 }
 
 impl Model for Obligations {

@@ -18,11 +18,20 @@ pub struct TargetWord {
 /// What the obligations that wait for one operation give as targets: whether one of them gives none, and so waits for
 /// every target, and a word for each 64 numbers of which one is given. It may still tell of obligations that were
 /// withdrawn.
-#[derive(Drop)]
 pub struct Targets {
     pub operation: Name,
     pub anywhere: bool,
     pub words: ItemList<TargetWord>,
+}
+
+impl Drop for Targets {
+    fn drop(self) {
+        let Targets {
+            operation: _,
+            anywhere: _,
+            words: _,
+        } = self;
+    }
 }
 
 impl CopyOf for Targets {

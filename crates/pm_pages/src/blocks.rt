@@ -10,9 +10,14 @@ use pm_model::Memory;
 use std::alloc::Global;
 use std::marker::Model;
 
-#[derive(Drop)]
 pub(crate) struct Block<T> {
     items: Vec<T>,
+}
+
+impl<T: Drop> Drop for Block<T> {
+    fn drop(self) {
+        let Block { items: _ } = self;
+    }
 }
 
 impl<T> Model for Block<T> {

@@ -12,9 +12,14 @@ use std::alloc::Global;
 use std::marker::Model;
 
 /// A list, of which contracts see whether it is the row's own.
-#[derive(Drop)]
 pub(crate) struct Leaf<T> {
     page: Page<T>,
+}
+
+impl<T: Drop> Drop for Leaf<T> {
+    fn drop(self) {
+        let Leaf { page: _ } = self;
+    }
 }
 
 impl<T> Model for Leaf<T> {

@@ -22,10 +22,15 @@ const LEAF: usize = 16;
 /// Contracts see its items, for each whether it may be written, and whether the list has shared none since it was made.
 ///
 /// An item is written only where `own_at` has seen to it; from then on no memory is wanted.
-#[derive(Drop)]
 pub struct LeafList<T> {
     row: ListRow<T>,
     count: usize,
+}
+
+impl<T: Drop> Drop for LeafList<T> {
+    fn drop(self) {
+        let LeafList { row: _, count: _ } = self;
+    }
 }
 
 impl<T> Model for LeafList<T> {

@@ -22,6 +22,3 @@ pub use leaf_list::LeafList;
 pub use list::PageList;
 pub use list_row::ListRow;
 pub use owned::Owned;
-
-#[cfg(test)]
-mod tests;

@@ -20,13 +20,24 @@ use std::marker::Model;
 ///
 /// An item is written or taken out only where its page is the list's own, which `own_at` and
 /// `own_where` see to; from then on no memory is wanted.
-#[derive(Drop)]
 pub struct PageList<T> {
     pages: Vec<Page<T>>,
     starts: Vec<usize>,
     count: usize,
     room: usize,
     alone: bool,
+}
+
+impl<T: Drop> Drop for PageList<T> {
+    fn drop(self) {
+        let PageList {
+            pages: _,
+            starts: _,
+            count: _,
+            room: _,
+            alone: _,
+        } = self;
+    }
 }
 
 impl<T> Model for PageList<T> {

@@ -19,10 +19,18 @@ const ROOM: usize = 32;
 /// Some lists, each found by its place, which copies share one by one: a copy costs a pointer for each page of 32 lists, and a
 /// change of a list copies that page and that list alone. Contracts see the lists, for each whether it may be written, and
 /// whether the row has shared none of them since it was made: then what is taken out wants no memory.
-#[derive(Drop)]
 pub struct ListRow<T> {
     leaves: PageList<Leaf<T>>,
     alone: bool,
+}
+
+impl<T: Drop> Drop for ListRow<T> {
+    fn drop(self) {
+        let ListRow {
+            leaves: _,
+            alone: _,
+        } = self;
+    }
 }
 
 impl<T> Model for ListRow<T> {

@@ -8,9 +8,14 @@ use std::alloc::Global;
 use std::marker::Model;
 
 /// A value of one's own, on the heap.
-#[derive(Drop)]
 pub struct Owned<T> {
     place: Box<T>,
+}
+
+impl<T: Drop> Drop for Owned<T> {
+    fn drop(self) {
+        let Owned { place: _ } = self;
+    }
 }
 
 impl<T> Model for Owned<T> {

@@ -5,9 +5,6 @@ ghost use Rattle.std.specs.Prelude.{◌≡◌, IsTrue};
 ghost use Rattle.pm_model.specs.Obligations.{is_in_given, matches};
 ghost use Rattle.pm_pattern.specs.Live.{IsGivenLive, IsPatternLive, IsEventLive};
 
-#[cfg(test)]
-mod tests;
-
 use pm_model::{ElementId, Event, Pattern, Reach};
 
 /// Whether the element is in the one that is given, where one is.

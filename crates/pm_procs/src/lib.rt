@@ -9,6 +9,3 @@ mod walks;
 
 pub use errors::{ProcsError, change_error};
 pub use table::Procs;
-
-#[cfg(test)]
-mod tests;

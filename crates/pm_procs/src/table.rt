@@ -27,12 +27,22 @@ const ROOM: usize = 64;
 /// given in turn, and none twice. A look-up by number halves what is left at each step. Contracts see
 /// also whether the table shares its pages with copies: where it stands alone, nothing is closed or
 /// ended at the cost of memory.
-#[derive(Drop)]
 pub struct Procs {
     sessions: PageList<Session>,
     processes: PageList<Process>,
     next_session: u32,
     next_process: u32,
+}
+
+impl Drop for Procs {
+    fn drop(self) {
+        let Procs {
+            sessions: _,
+            processes: _,
+            next_session: _,
+            next_process: _,
+        } = self;
+    }
 }
 
 impl Model for Procs {

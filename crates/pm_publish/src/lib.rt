@@ -19,6 +19,3 @@ pub use room::{Room, publish_room};
 pub use rule::{Glimpse, NeverBack};
 pub use sealed::Sealed;
 pub use viewer::Viewer;
-
-#[cfg(test)]
-mod tests;

@@ -17,9 +17,14 @@ use std::sync::Arc;
 const WORDS: usize = 256;
 
 /// A set of numbers below 16,384, which copies share until a number is put into it. Contracts see it as a row.
-#[derive(Drop)]
 pub(crate) struct Containers {
     words: Arc<Vec<u64>>,
+}
+
+impl Drop for Containers {
+    fn drop(self) {
+        let Containers { words: _ } = self;
+    }
 }
 
 impl Model for Containers {

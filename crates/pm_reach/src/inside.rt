@@ -16,7 +16,6 @@ use pm_model::{ElementId, Memory};
 use std::alloc::Global;
 
 /// All that is contained in an element.
-#[derive(Drop)]
 pub(crate) struct Inside {
     /// The element.
     pub of: ElementId,
@@ -24,6 +23,16 @@ pub(crate) struct Inside {
     pub span: Span,
     /// It as a row.
     pub row: Vec<u64>,
+}
+
+impl Drop for Inside {
+    fn drop(self) {
+        let Inside {
+            of: _,
+            span: _,
+            row: _,
+        } = self;
+    }
 }
 
 impl Inside {

@@ -23,6 +23,3 @@ pub use laws::{added_rows_tell, assigned_rows_tell, created_rows_tell, removed_r
 pub use reach::ReachRows;
 pub use step::Step;
 pub use view::RowsView;
-
-#[cfg(test)]
-mod tests;

@@ -17,15 +17,25 @@ use std::alloc::Global;
 use std::sync::Arc;
 
 /// A row of bits.
-#[derive(Drop)]
 pub(crate) struct Row {
     pub(crate) words: Vec<u64>,
 }
 
+impl Drop for Row {
+    fn drop(self) {
+        let Row { words: _ } = self;
+    }
+}
+
 /// The rows of 64 numbers.
-#[derive(Drop)]
 pub(crate) struct Page {
     pub(crate) rows: Vec<Option<Held<Row>>>,
+}
+
+impl Drop for Page {
+    fn drop(self) {
+        let Page { rows: _ } = self;
+    }
 }
 
 /// The words of the row at a place, where it has one.

@@ -26,10 +26,18 @@ use std::sync::Arc;
 /// element is found: where something else ever was contained in it, a change costs a look at each page,
 /// and at each row of the pages whose union has the element. The unions are a filter, which may have
 /// more than the rows. They are at most 256 rows, which take 512 KiB.
-#[derive(Drop)]
 pub struct ReachRows {
     held: Held<Rows>,
     written: u64,
+}
+
+impl Drop for ReachRows {
+    fn drop(self) {
+        let ReachRows {
+            held: _,
+            written: _,
+        } = self;
+    }
 }
 
 impl Model for ReachRows {

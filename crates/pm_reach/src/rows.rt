@@ -25,13 +25,23 @@ use std::marker::Model;
 /// element is found: where something else ever was contained in it, a change costs a look at each page,
 /// and at each row of the pages whose union has the element. The unions are a filter, which may have
 /// more than the rows. They are at most 256 rows, which take 512 KiB.
-#[derive(Drop)]
 pub(crate) struct Rows {
     table: RowTable,
     /// Row k has all that the rows of the numbers from 64 k on, 64 of them, have, and maybe more.
     unions: RowTable,
     ready: Option<Ready>,
     containers: Containers,
+}
+
+impl Drop for Rows {
+    fn drop(self) {
+        let Rows {
+            table: _,
+            unions: _,
+            ready: _,
+            containers: _,
+        } = self;
+    }
 }
 
 impl Model for Rows {

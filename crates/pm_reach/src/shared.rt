@@ -17,9 +17,14 @@ use std::cmp::min;
 use std::sync::Arc;
 
 /// The rows of 64 numbers, each of which other tables may have too. It ends behind its last row.
-#[derive(Drop)]
 pub(crate) struct SharedPage {
     pub(crate) rows: Vec<Option<Arc<Row>>>,
+}
+
+impl Drop for SharedPage {
+    fn drop(self) {
+        let SharedPage { rows: _ } = self;
+    }
 }
 
 /// A page, as a table has it.

@@ -33,9 +33,14 @@ pub(crate) enum NewRow {
 }
 
 /// The rows, by number. Each page, and each row, is the table's own, or shared with copies of it.
-#[derive(Drop)]
 pub(crate) struct RowTable {
     pages: Vec<HeldPage>,
+}
+
+impl Drop for RowTable {
+    fn drop(self) {
+        let RowTable { pages: _ } = self;
+    }
 }
 
 impl Model for RowTable {

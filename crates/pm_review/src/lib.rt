@@ -9,8 +9,6 @@ ghost use Rattle.pm_review.specs.Live.{IsLive, AllLive};
 mod differences;
 mod laws;
 mod surveys;
-#[cfg(test)]
-mod tests;
 
 pub use differences::{changes, changes_of_rights};
 pub use laws::lists_rise;

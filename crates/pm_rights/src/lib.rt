@@ -7,6 +7,3 @@ mod words;
 
 pub use errors::{RightsError, change_error};
 pub use names::RightNames;
-
-#[cfg(test)]
-mod tests;

@@ -20,9 +20,14 @@ const MAX_RIGHTS: usize = 64;
 /// The names of the rights by bit: the seventeen from the opening, then the defined ones in order of
 /// creation, at most 64 in all. Copies share them until a right is defined. Contracts see the list of the
 /// names.
-#[derive(Drop)]
 pub struct RightNames {
     names: Arc<Vec<Name>>,
+}
+
+impl Drop for RightNames {
+    fn drop(self) {
+        let RightNames { names: _ } = self;
+    }
 }
 
 impl Model for RightNames {

@@ -2,4 +2,3 @@ pub mod AnyMatch
 pub mod Counts
 pub mod Places
 pub mod Steps
-pub mod WorkedTurns

@@ -10,6 +10,3 @@ pub use acts::Acts;
 pub use errors::{ActError, RunError};
 pub use matched::{PositionList, any_matches, matching, matching_without, none_without};
 pub use running::run_responses;
-
-#[cfg(test)]
-mod tests;

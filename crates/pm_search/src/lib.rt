@@ -12,9 +12,6 @@ ghost use Rattle.pm_search.specs.Search.{Searching, count_set, Visited, Expanded
 use pm_model::{ElementId, Memory, Parents, Reach};
 use std::alloc::Global;
 
-#[cfg(test)]
-mod tests;
-
 /// Marks w and puts it at the queue's end, unless it is marked already. Answers the queue's new end.
 #[tactic(auto, using(crate::proofs::SearchSteps::room))]
 fn visit(marks: &mut [bool], queue: &mut [u32], end: usize, w: ElementId) -> usize
@@ -119,7 +116,6 @@ fn marked_word(marks: &[bool], start: usize) -> u64
 /// Containment by search. The marks are taken when it is made; a question takes no memory. A
 /// question from another element than the last one unsets the marks of that search and makes a new
 /// one, at the cost of what both visit; a question from the same element looks at one mark.
-#[derive(Drop)]
 pub struct PathReach<'a, P: Parents> {
     parents: &'a P,
     marks: Vec<bool>,
@@ -131,6 +127,18 @@ pub struct PathReach<'a, P: Parents> {
     ghost within: { end ≤ vec_len queue },
     ghost queued: { MarksQueued marks.items queue.items end },
     ghost above: { ForSome source (λ x. MarksAbove (P.assigned parents.now) x marks.items) },
+}
+
+impl<'a, P: Parents + Drop> Drop for PathReach<'a, P> {
+    fn drop(self) {
+        let PathReach {
+            parents: _,
+            marks: _,
+            queue: _,
+            end: _,
+            source: _,
+        } = self;
+    }
 }
 
 impl<'a, P: Parents> PathReach<'a, P> {

@@ -16,11 +16,20 @@ use std::{io, thread};
 const REST: u64 = 20;
 
 /// Where connections come: a port of 127.0.0.1 that the system listens on.
-#[derive(Drop)]
 pub struct Entrance {
     listener: TcpListener,
     poll: Poll,
     events: Events<Global>,
+}
+
+impl Drop for Entrance {
+    fn drop(self) {
+        let Entrance {
+            listener: _,
+            poll: _,
+            events: _,
+        } = self;
+    }
 }
 
 impl Entrance {

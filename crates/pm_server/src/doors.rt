@@ -16,11 +16,20 @@ use std::sync::{Arc, Wait};
 const WAITING: u32 = 64;
 
 /// The acceptor's side of the hand-off to one worker, and what wakes that worker.
-#[derive(Drop)]
 pub struct Door {
     queue: Arc<Handoff<Arrival>>,
     giver: Giver<Arrival>,
     waker: Waker,
+}
+
+impl Drop for Door {
+    fn drop(self) {
+        let Door {
+            queue: _,
+            giver: _,
+            waker: _,
+        } = self;
+    }
 }
 
 impl Model for Door {

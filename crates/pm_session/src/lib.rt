@@ -3,8 +3,6 @@
 
 pub mod laws;
 mod session;
-#[cfg(test)]
-mod tests;
 mod waiting;
 
 pub use session::Session;

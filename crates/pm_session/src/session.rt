@@ -14,7 +14,6 @@ use std::marker::Model;
 /// What has come and isn't answered yet, and what is to be sent. Contracts see the two lists of
 /// bytes. The input buffer of 16,384 bytes is taken once, whatever comes, and so is the output's:
 /// it doesn't grow as long as replies are appended only where there is room for one.
-#[derive(Drop)]
 pub struct Session {
     waiting: Vec<u8>,
     // The bytes before this place were taken.
@@ -22,6 +21,17 @@ pub struct Session {
     // How many of the bytes that wait are of the last line, which isn't whole yet.
     tail: usize,
     output: Vec<u8>,
+}
+
+impl Drop for Session {
+    fn drop(self) {
+        let Session {
+            waiting: _,
+            start: _,
+            tail: _,
+            output: _,
+        } = self;
+    }
 }
 
 impl Model for Session {

@@ -26,7 +26,6 @@ use std::marker::Model;
 /// A copy of a state in which one change after another is made, to be one entry together or none. A
 /// change to which nothing responds, and that leaves the kept reviews, is made in place, by [`State::enter`]; a request to
 /// which obligations respond, or that touches a kept review, is made in a draft.
-#[derive(Drop)]
 pub struct Draft {
     graph: Graph,
     /// None once memory was wanting for them.
@@ -34,6 +33,17 @@ pub struct Draft {
     history: History,
     /// Whether some element was deleted in it.
     deleted: bool,
+}
+
+impl Drop for Draft {
+    fn drop(self) {
+        let Draft {
+            graph: _,
+            lists: _,
+            history: _,
+            deleted: _,
+        } = self;
+    }
 }
 
 impl Model for Draft {
@@ -157,7 +167,7 @@ impl Draft {
             graph,
             lists,
             mut history,
-            ..
+            deleted: _,
         } = self;
         let Some(lists) = lists else {
             return Err(HistoryError::Memory);

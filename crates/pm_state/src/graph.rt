@@ -24,9 +24,14 @@ use std::alloc::Global;
 use std::marker::Model;
 
 /// All that commands change. Contracts see the lists, which are well formed.
-#[derive(Drop)]
 pub struct Graph {
     tables: Tables,
+}
+
+impl Drop for Graph {
+    fn drop(self) {
+        let Graph { tables: _ } = self;
+    }
 }
 
 impl Model for Graph {

@@ -29,11 +29,20 @@ const LONGEST_HISTORY: u64 = 262144;
 
 /// A version of the machine: its graph, the lists of its kept reviews, and the accepted requests that led to it. Contracts see
 /// no lists, since the graph determines them.
-#[derive(Drop)]
 pub struct State {
     graph: Graph,
     lists: KeptLists,
     history: History,
+}
+
+impl Drop for State {
+    fn drop(self) {
+        let State {
+            graph: _,
+            lists: _,
+            history: _,
+        } = self;
+    }
 }
 
 impl Model for State {

@@ -13,7 +13,6 @@ use pm_oblig::Obligations;
 use pm_procs::Procs;
 use pm_rights::RightNames;
 
-#[derive(Drop)]
 pub(crate) struct Tables {
     pub(crate) diagram: Diagram,
     pub(crate) assoc: Assoc,
@@ -24,6 +23,21 @@ pub(crate) struct Tables {
     pub(crate) kept: KeptReviews,
     /// The policy classes, by rising number.
     pub(crate) classes: ClassList,
+}
+
+impl Drop for Tables {
+    fn drop(self) {
+        let Tables {
+            diagram: _,
+            assoc: _,
+            deny: _,
+            oblig: _,
+            rights: _,
+            procs: _,
+            kept: _,
+            classes: _,
+        } = self;
+    }
 }
 
 impl Tables {
@@ -39,57 +53,20 @@ impl Tables {
         self.kept.share()
     }
 
-    /// The elements and the policy classes once more.
-    fn copied_elements(&self) -> Result<(Diagram, ClassList), Memory>
-        ensures diagram { IfOk result (λ same. same.0 ≡ self.now.diagram) }
-        ensures classes { IfOk result (λ same. same.1 ≡ self.now.classes) }
-    {
-        let diagram = self.diagram.copy()?;
-        let classes = self.classes.copy()?;
-        Ok((diagram, classes))
-    }
-
-    /// The associations, prohibitions and obligations once more.
-    fn copied_rules(&self) -> Result<(Assoc, Deny, Obligations), Memory>
-        ensures assoc { IfOk result (λ same. same.0.grantees ≡ self.now.assoc.grantees) }
-        ensures deny { IfOk result (λ same. same.1.items ≡ self.now.deny.items) }
-        ensures oblig { IfOk result (λ same. same.2.items ≡ self.now.oblig.items) }
-    {
-        let assoc = self.assoc.copy()?;
-        let deny = self.deny.copy()?;
-        let oblig = self.oblig.copy()?;
-        Ok((assoc, deny, oblig))
-    }
-
-    /// The names of rights, the processes and the kept reviews once more.
-    fn copied_numbers(&self) -> Result<(RightNames, Procs, KeptReviews), Memory>
-        ensures rights { IfOk result (λ same. same.0 ≡ self.now.rights) }
-        ensures procs { IfOk result (λ same. same.1.procs ≡ self.now.procs.procs) }
-        ensures kept { IfOk result (λ same. same.2 ≡ self.now.kept) }
-    {
-        let rights = self.rights.copy()?;
-        let procs = self.procs.copy()?;
-        let kept = self.kept.copy()?;
-        Ok((rights, procs, kept))
-    }
-
     /// The same tables once more. What is shared is not copied; the list of classes is.
     pub(crate) fn copy(&self) -> Result<Tables, Memory>
         ensures graph { IfOk result (λ same. graph_of same ≡ graph_of self.now) }
         ensures classes { IfOk result (λ same. same.classes ≡ self.now.classes) }
     {
-        let (diagram, classes) = self.copied_elements()?;
-        let (assoc, deny, oblig) = self.copied_rules()?;
-        let (rights, procs, kept) = self.copied_numbers()?;
         Ok(Tables {
-            diagram,
-            assoc,
-            deny,
-            oblig,
-            rights,
-            procs,
-            kept,
-            classes,
+            diagram: self.diagram.copy()?,
+            assoc: self.assoc.copy()?,
+            deny: self.deny.copy()?,
+            oblig: self.oblig.copy()?,
+            rights: self.rights.copy()?,
+            procs: self.procs.copy()?,
+            kept: self.kept.copy()?,
+            classes: self.classes.copy()?,
         })
     }
 

@@ -11,11 +11,12 @@ use Rattle.pm_model.specs.declared.replies.Shown.TheVariants.{Nothing}
 use Rattle.pm_model.specs.declared.requests.Body.{Body}
 use Rattle.pm_model.specs.declared.requests.Body.TheVariants as body
 use Rattle.pm_model.specs.declared.requests.Request.{Request}
-use Rattle.pm_step.specs.Asking.{asks_freely, only_asks, proposal_of, IsAskedFor}
-use Rattle.pm_step.specs.Glances.{accessed_event, is_awaited, body_needs_desk, needs_desk, IsGlanced}
+use Rattle.pm_machine.specs.Asking.{asks_freely}
+use Rattle.pm_step.specs.Asking.{only_asks, proposal_of, IsAskedFor}
+use Rattle.pm_machine.specs.Glances.{accessed_event, is_awaited, body_needs_desk, needs_desk, IsGlanced}
 use Rattle.pm_step.specs.declared.proposals.Proposal.TheVariants.{Told, Granted}
-use Rattle.pm_step.specs.declared.glances.Glance.{Glance}
-use Rattle.pm_step.specs.declared.glances.Glance.TheVariants.{Answer, NeedsDesk}
+use Rattle.pm_machine.specs.declared.glances.Glance.{Glance}
+use Rattle.pm_machine.specs.declared.glances.Glance.TheVariants.{Answer, NeedsDesk}
 use Rattle.pm_step.proofs.Placed.{none-of}
 use Rattle.pm_step.proofs.Stepping.{told-is}
 

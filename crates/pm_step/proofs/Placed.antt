@@ -18,7 +18,7 @@ use Rattle.pm_laws.proofs.Checks.{unless-ok}
 use Rattle.pm_laws.proofs.Responding.{responder-may, obliging-stands}
 use Rattle.pm_runner.specs.Standing.{StandAt, without}
 use Rattle.pm_runner.proofs.Places.{as_many, none_without}
-use Rattle.pm_step.specs.Asking.{none_responded}
+use Rattle.pm_machine.specs.Asking.{none_responded}
 use Rattle.pm_step.specs.Responders.{items_at, AreResponders, withdrawn}
 
 -- ---- places

@@ -19,9 +19,10 @@ use Rattle.pm_model.specs.declared.replies.Table.TheVariants.{History}
 use Rattle.pm_model.specs.declared.replies.Reply.{Reply}
 use Rattle.pm_model.specs.declared.replies.Reply.TheVariants.{Done, Refused}
 use Rattle.pm_laws.proofs.Replayed.{bounded}
-use Rattle.pm_step.specs.Answered.{HasAnswered, IsStep}
+use Rattle.pm_machine.specs.Answered.{HasAnswered}
+use Rattle.pm_step.specs.Steps.{IsStepFrom}
 use Rattle.pm_step.specs.Settling.{reviews_settled}
-use Rattle.pm_step.specs.declared.steps.Stepped.TheVariants.{Accepted, Answered}
+use Rattle.pm_machine.specs.declared.versions.Stepped.TheVariants.{Accepted, Answered}
 
 -- what an accepted change is answered by
 abbrev given : State → Change → Graph → Answer
@@ -83,17 +84,17 @@ parts a reply next told is = rw (told, sym is) refl
 
 -- what is answered and adds no entry is told alone
 pub answered-alone : (M N : Machine) (e : Entry) (reply : Reply) → HasAnswered M N e reply → length N.history ≡ length M.history →
-    IsStep M e (Answered reply)
+    IsStepFrom M e (Answered reply)
 answered-alone M N e reply h same = of (answer (state_of M) e.request).next refl where
-  of : (o : Option State) → (answer (state_of M) e.request).next ≡ o → IsStep M e (Answered reply)
+  of : (o : Option State) → (answer (state_of M) e.request).next ≡ o → IsStepFrom M e (Answered reply)
   of None is = parts (answer (state_of M) e.request) reply None h.reply is
   of (Some S) is = absurd (omega (arith, same, grown M N e h S is))
 
 -- what is answered and adds an entry is accepted
 pub answered-on : (M N : Machine) (e : Entry) (reply : Reply) → HasAnswered M N e reply → ¬ (length N.history ≡ length M.history) →
-    IsStep M e (Accepted N reply)
+    IsStepFrom M e (Accepted N reply)
 answered-on M N e reply h more = of (answer (state_of M) e.request).next refl where
-  of : (o : Option State) → (answer (state_of M) e.request).next ≡ o → IsStep M e (Accepted N reply)
+  of : (o : Option State) → (answer (state_of M) e.request).next ≡ o → IsStepFrom M e (Accepted N reply)
   of None is = absurd (more (ap length (h.history ∙ rw is (append-nil M.history))))
   of (Some S) is =
       let state : state_of N ≡ S = h.state ∙ rw is refl in
@@ -117,14 +118,14 @@ full-entry-is S T r reply proposal full = ap (limited S) proposal ∙ rw (le-leb
 
 -- ---- a step taken
 
-pub step-answered : (M : Machine) (e : Entry) (reply : Reply) → IsStep M e (Answered reply) → HasAnswered M M e reply
+pub step-answered : (M : Machine) (e : Entry) (reply : Reply) → IsStepFrom M e (Answered reply) → HasAnswered M M e reply
 step-answered M e reply is = record {
   reply = sym (ap (λ (a : Answer). a.reply) is);
   state = sym (ap (after (state_of M)) is);
   history = sym (append-nil M.history) ∙ sym (ap (λ (a : Answer). M.history ++ entries_of a.next e) is);
 }
 
-pub step-accepted : (M N : Machine) (e : Entry) (reply : Reply) → IsStep M e (Accepted N reply) → HasAnswered M N e reply
+pub step-accepted : (M N : Machine) (e : Entry) (reply : Reply) → IsStepFrom M e (Accepted N reply) → HasAnswered M N e reply
 step-accepted M N e reply is = record {
   reply = sym (ap (λ (a : Answer). a.reply) is.0);
   state = sym (ap (after (state_of M)) is.0);
@@ -181,7 +182,7 @@ module _ (M D : Machine) (K : Graph) (r : Request) (reply : Reply) where
 
     -- it is the next state
     pub settled-step : (N : Machine) (e : Entry) → e.request ≡ r → D.history ≡ M.history → length D.history < longest_history →
-        N ≡ record { graph = D.graph; history = D.history ++ e ∷ [] } → IsStep M e (Accepted N reply)
+        N ≡ record { graph = D.graph; history = D.history ++ e ∷ [] } → IsStepFrom M e (Accepted N reply)
     settled-step N e asks history room is = (ap (answer (state_of M)) asks ∙ entry-is (state_of M) next r reply settled-proposed within ∙ on, grows) where
       grows : N.history ≡ M.history ++ e ∷ []
       grows = ap (λ (m : Machine). m.history) is ∙ ap (λ (entries : List Entry). entries ++ e ∷ []) history
@@ -201,7 +202,7 @@ module _ (M D : Machine) (K : Graph) (r : Request) (reply : Reply) where
 
     -- but for a full history
     pub settled-full : (e : Entry) → e.request ≡ r → D.history ≡ M.history → longest_history ≤ length D.history →
-        IsStep M e (Answered (Refused (Full History)))
+        IsStepFrom M e (Answered (Refused (Full History)))
     settled-full e asks history full =
         let same = ap length history in
         let next : State = record { graph = D.graph; version = version } in

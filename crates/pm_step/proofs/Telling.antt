@@ -8,7 +8,7 @@ use Rattle.pm_model.specs.Nameable.{IsNameable}
 use Rattle.pm_model.specs.declared.requests.Entry.{Entry}
 use Rattle.pm_model.specs.declared.replies.Reply.{Reply}
 use Rattle.pm_laws.proofs.Nameable.{answer_nameable}
-use Rattle.pm_step.specs.Answered.{HasAnswered}
+use Rattle.pm_machine.specs.Answered.{HasAnswered}
 
 pub names-live : (old new : Machine) (e : Entry) (reply : Reply) → IsWellFormed old.graph → HasAnswered old new e reply →
     IsNameable (λ n. is_some (element_at new.graph.elements n)) reply

@@ -1,4 +1,4 @@
--- Requests that ask and change nothing, and replies to which nothing has responded.
+-- Requests that ask and change nothing, and what they come to.
 use Rattle.std.specs.Prelude.{◌≡◌, ◌==◌, Bool, true, false, Result, Ok, Err}
 use Rattle.std.specs.List.{list_any}
 use Rattle.pm_model.specs.KeptReviews.{is_kept_of}
@@ -12,7 +12,7 @@ use Rattle.pm_model.specs.declared.requests.Review.{Review}
 use Rattle.pm_model.specs.declared.requests.Review.TheVariants.{Kept}
 use Rattle.pm_model.specs.declared.replies.Reply.{Reply}
 use Rattle.pm_model.specs.declared.replies.Reply.TheVariants as reply
-use Rattle.pm_step.specs.Glances.{accessed_event}
+use Rattle.pm_machine.specs.Glances.{accessed_event}
 use Rattle.pm_step.specs.declared.proposals.Proposal.{Proposal}
 use Rattle.pm_step.specs.declared.proposals.Proposal.TheVariants.{Told, Change, Granted}
 
@@ -22,19 +22,6 @@ only_asks body.Version = true
 only_asks (body.Access process right target) = true
 only_asks (body.Review process question) = true
 only_asks _ = false
-
--- it asks what takes no memory: what the version is, or for an access
-abbrev pub asks_freely : Body → Bool
-asks_freely body.Version = true
-asks_freely (body.Access process right target) = true
-asks_freely _ = false
-
--- no obligation has responded
-abbrev pub none_responded : Reply → Bool
-none_responded (reply.Done fired shown) = fired == 0
-none_responded (reply.Granted fired) = fired == 0
-none_responded (reply.ResponseRefused obligation action why) = false
-none_responded _ = true
 
 -- it is a reply
 abbrev pub IsReply : Proposal → Type 0

@@ -13,7 +13,7 @@ ghost use Rattle.pm_runner.specs.Outcomes.{IsStop};
 ghost use Rattle.pm_pattern.specs.Live.{IsEventLive};
 ghost use Rattle.pm_state.specs.Containing.{relation_in};
 ghost use Rattle.pm_runner.specs.Standing.{StandAt, without};
-ghost use Rattle.pm_step.specs.Answered.{IsStep};
+ghost use Rattle.pm_step.specs.Steps.{IsStepFrom};
 ghost use Rattle.pm_step.specs.Proposed.{event_by, IsActorLive};
 ghost use Rattle.pm_step.specs.Responders.{AreResponders, items_at, withdrawn};
 
@@ -21,9 +21,9 @@ use crate::proposals::Actor;
 use crate::replies::done;
 use crate::responding::respond;
 use crate::settling::settle_reviews;
-use crate::steps::Stepped;
 use pm_admin::{names_in, patterns_live, raised};
 use pm_history::HistoryError;
+use pm_machine::Stepped;
 use pm_model::{Change, ChangeError, Entry, Event, Memory, Refusal, Reply, Table};
 use pm_runner::{PositionList, RunError, any_matches, matching, matching_without};
 use pm_state::{Draft, Graph, State};
@@ -97,11 +97,16 @@ fn places_of(graph: &Graph, event: &Event, left_out: Option<u32>) -> Result<Posi
 }
 
 // The draft as the next state, with the last changes of its kept reviews; or a full history.
-fn finish(state: &State, mut draft: Draft, reply: Reply, entry: Entry) -> Result<Stepped, Memory>
+fn finish(
+    state: &State,
+    mut draft: Draft,
+    reply: Reply,
+    entry: Entry,
+) -> Result<Stepped<State>, Memory>
     requires history { draft.history ≡ state.now.history }
     requires asked { proposed (state_of state.now) entry.request ≡ record { reply = reply; next = Some (record { graph = with_changes state.now.graph (length state.now.history + 1) draft.graph; version = length state.now.history + 1 }) } }
     requires judged { capped draft.asked ≡ capped (judged_in state.now.history + judged_by (state_of state.now) entry.request) }
-    ensures { IfOk result (IsStep state.now entry) }
+    ensures { IfOk result (IsStepFrom state.now entry) }
 {
     state.replayed();
     settle_reviews(state, &mut draft, state.version() + 1)?;
@@ -161,14 +166,14 @@ fn settle(
     places: &PositionList,
     reply: Reply,
     entry: Entry,
-) -> Result<Stepped, Memory>
+) -> Result<Stepped<State>, Memory>
     requires history { draft.history ≡ state.now.history }
     requires standing { AreResponders state.now.graph.obligations places.now draft.graph }
     requires few { length places.now ≤ max_obligations }
     requires live { IsEventLive (relation_in state.now.graph) event.now }
     requires asked { proposed (state_of state.now) entry.request ≡ settled (state_of state.now) reply (responded (state_of state.now) (Some event.now) (items_at state.now.graph.obligations places.now) draft.graph) }
     requires judged { capped (draft.asked + judged_responded (state_of state.now) (Some event.now) (items_at state.now.graph.obligations places.now) draft.graph) ≡ capped (judged_in state.now.history + judged_by (state_of state.now) entry.request) }
-    ensures { IfOk result (IsStep state.now entry) }
+    ensures { IfOk result (IsStepFrom state.now entry) }
 {
     let version = state.version() + 1;
     match run_in(state.graph(), draft, event, places, version) {
@@ -182,11 +187,11 @@ pub(crate) fn enter_in_draft(
     state: &State,
     change: &Change,
     entry: Entry,
-) -> Result<Stepped, Memory>
+) -> Result<Stepped<State>, Memory>
     requires named { IsNamed state.now.graph change.now }
     requires asked { proposed (state_of state.now) entry.request ≡ entered (state_of state.now) None change.now }
     requires judged { judged_by (state_of state.now) entry.request ≡ judged_for state.now.graph change.now }
-    ensures { IfOk result (IsStep state.now entry) }
+    ensures { IfOk result (IsStepFrom state.now entry) }
 {
     let mut draft = state.draft()?;
     match draft.change(change) {
@@ -203,12 +208,12 @@ pub(crate) fn respond_to_change(
     change: &Change,
     event: &Event,
     entry: Entry,
-) -> Result<Stepped, Memory>
+) -> Result<Stepped<State>, Memory>
     requires named { IsNamed state.now.graph change.now }
     requires live { IsEventLive (relation_in state.now.graph) event.now }
     requires asked { proposed (state_of state.now) entry.request ≡ entered (state_of state.now) (Some event.now) change.now }
     requires judged { judged_by (state_of state.now) entry.request ≡ judged_entered (state_of state.now) (Some event.now) change.now }
-    ensures { IfOk result (IsStep state.now entry) }
+    ensures { IfOk result (IsStepFrom state.now entry) }
 {
     let places = places_of(state.graph(), event, withdrawn(change))?;
     let mut draft = state.draft()?;
@@ -226,12 +231,12 @@ pub(crate) fn respond_to_access(
     state: &State,
     event: &Event,
     entry: Entry,
-) -> Result<Stepped, Memory>
+) -> Result<Stepped<State>, Memory>
     requires live { IsEventLive (relation_in state.now.graph) event.now }
     requires some { nat_lt 0 (length (responders state.now.graph state.now.graph.obligations (Some event.now))) ≡ true }
     requires asked { proposed (state_of state.now) entry.request ≡ granted (state_of state.now) event.now }
     requires judged { judged_by (state_of state.now) entry.request ≡ judged_granted (state_of state.now) event.now }
-    ensures { IfOk result (IsStep state.now entry) }
+    ensures { IfOk result (IsStepFrom state.now entry) }
 {
     let places = places_of(state.graph(), event, None)?;
     let draft = state.draft()?;

@@ -1,8 +1,8 @@
 //! One request is the machine's answer.
 #![tactic(auto)]
 
+mod edition;
 mod entries;
-mod glances;
 mod looking;
 mod proposals;
 mod replies;
@@ -12,7 +12,7 @@ mod settling;
 mod solo;
 mod steps;
 
-pub use glances::Glance;
+pub use edition::Edition;
 pub use looking::glance;
 pub use solo::Solo;
-pub use steps::{Stepped, advance, step};
+pub use steps::{advance, step};

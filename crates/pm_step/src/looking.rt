@@ -4,12 +4,13 @@ ghost use Rattle.pm_model.specs.Events.{responders};
 ghost use Rattle.pm_model.specs.History.{state_of};
 ghost use Rattle.pm_pattern.specs.Live.{IsEventLive};
 ghost use Rattle.pm_state.specs.Containing.{relation_in};
-ghost use Rattle.pm_step.specs.Asking.{asks_freely, only_asks};
-ghost use Rattle.pm_step.specs.Glances.{IsGlanced};
+ghost use Rattle.pm_machine.specs.Asking.{asks_freely};
+ghost use Rattle.pm_step.specs.Asking.{only_asks};
+ghost use Rattle.pm_machine.specs.Glances.{IsGlanced};
 
 use crate::entries::any_responds;
-use crate::glances::Glance;
 use crate::proposals::{Proposal, propose};
+use pm_machine::Glance;
 use pm_model::{Body, Event, Memory, Reply, Request};
 use pm_state::State;
 use std::thread::Threads;

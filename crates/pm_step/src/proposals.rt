@@ -6,8 +6,9 @@ ghost use Rattle.pm_model.specs.Events.{event, raised};
 ghost use Rattle.pm_model.specs.History.{state_of};
 ghost use Rattle.pm_model.specs.Resolve.{look_up};
 ghost use Rattle.pm_affect.specs.Counting.{count_on, judged_by, judged_entered, judged_granted};
-ghost use Rattle.pm_step.specs.Asking.{asks_freely, only_asks, proposal_of, IsReply, IsTold, IsAskedFor};
-ghost use Rattle.pm_step.specs.Glances.{accessed_event};
+ghost use Rattle.pm_machine.specs.Asking.{asks_freely};
+ghost use Rattle.pm_step.specs.Asking.{only_asks, proposal_of, IsReply, IsTold, IsAskedFor};
+ghost use Rattle.pm_machine.specs.Glances.{accessed_event};
 ghost use Rattle.pm_step.specs.Proposed.{answer_by, judged_by_proposal, IsPossible};
 
 use crate::reviewing::answer;

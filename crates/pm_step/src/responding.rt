@@ -65,7 +65,6 @@ fn act_by(
 
 /// A draft in which the obligations at these places respond. They stand in its graph, since no action
 /// withdraws one: so each author is a live user. Contracts see what they respond to, and the draft.
-#[derive(Drop)]
 struct Responding<'a> {
     draft: Draft,
     obligations: &'a Obligations,
@@ -76,6 +75,18 @@ struct Responding<'a> {
     version: u64,
 }
 
+impl<'a> Drop for Responding<'a> {
+    fn drop(self) {
+        let Responding {
+            draft: _,
+            obligations: _,
+            places: _,
+            names: _,
+            version: _,
+        } = self;
+    }
+}
+
 impl<'a> Model for Responding<'a> {
     ghost use Rattle.pm_step.specs.Responders.{Underway, AreResponders, items_at};
 
@@ -84,6 +95,21 @@ impl<'a> Model for Responding<'a> {
     ghost view = { λ s. record { occasion = record { names = s.names; version = s.version; obligations = items_at s.obligations.now.items s.places.now }; draft = s.draft } };
 
     ghost invariant = { λ s. AreResponders s.obligations.now.items s.places.now s.draft.graph };
+}
+
+impl<'a> Responding<'a> {
+    fn into_draft(self) -> Draft
+        ensures { result ≡ self.entry.draft }
+    {
+        let Responding {
+            draft,
+            obligations: _,
+            places: _,
+            names: _,
+            version: _,
+        } = self;
+        draft
+    }
 }
 
 impl<'a> Acts for Responding<'a> {
@@ -136,7 +162,7 @@ pub(crate) fn respond(
         version,
     };
     match run_responses(&mut acts, obligations, places) {
-        Ok(()) => Ok(acts.draft),
+        Ok(()) => Ok(acts.into_draft()),
         Err(error) => Err(error),
     }
 }

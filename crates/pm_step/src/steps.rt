@@ -9,25 +9,18 @@ ghost use Rattle.pm_affect.specs.Counting.{judged_by, judged_entered, judged_for
 ghost use Rattle.pm_pattern.specs.Live.{IsEventLive};
 ghost use Rattle.pm_state.specs.Containing.{relation_in};
 ghost use Rattle.pm_state.specs.Leaving.{LeavesReviews};
-ghost use Rattle.pm_step.specs.Answered.{HasAnswered, IsStep};
-ghost use Rattle.pm_step.specs.Asking.{asks_freely, none_responded};
+ghost use Rattle.pm_machine.specs.Answered.{HasAnswered};
+ghost use Rattle.pm_step.specs.Steps.{IsStepFrom};
+ghost use Rattle.pm_machine.specs.Asking.{asks_freely, none_responded};
 ghost use Rattle.pm_step.specs.Proposed.{event_by, IsActorLive};
 
 use crate::entries::{any_responds, awaited, enter_in_draft, respond_to_access, respond_to_change};
 use crate::proposals::{Actor, Proposal, propose};
 use crate::replies::done;
+use pm_machine::Stepped;
 use pm_model::{Change, ChangeError, Entry, Event, Memory, Reply, Request};
 use pm_state::State;
 use std::thread::Threads;
-
-/// What a step comes to.
-#[derive(Drop)]
-pub enum Stepped {
-    /// The request is an entry: the state after it, and the reply.
-    Accepted(State, Reply),
-    /// It is none, and the state stays: the reply.
-    Answered(Reply),
-}
 
 // Makes the change in place, or refuses it. Nothing responds to it, and it leaves the kept reviews.
 fn enter(state: &mut State, change: &Change, entry: Entry) -> Result<Reply, Memory>
@@ -46,8 +39,8 @@ fn enter(state: &mut State, change: &Change, entry: Entry) -> Result<Reply, Memo
 }
 
 // Takes a step from this state.
-fn go_on(state: &mut State, stepped: Stepped) -> Reply
-    ensures { (entry : Entry) → IsStep state.old entry stepped → HasAnswered state.old state.new entry result }
+fn go_on(state: &mut State, stepped: Stepped<State>) -> Reply
+    ensures { (entry : Entry) → IsStepFrom state.old entry stepped → HasAnswered state.old state.new entry result }
 {
     match stepped {
         Stepped::Accepted(next, reply) => {
@@ -188,8 +181,8 @@ pub fn step<R: Threads + Sync>(
     seat: u32,
     nth: u64,
     request: &Request,
-) -> Result<Stepped, Memory>
-    ensures { IfOk result (IsStep state.now (record { seat = seat; nth = nth; request = request.now })) }
+) -> Result<Stepped<State>, Memory>
+    ensures { IfOk result (IsStepFrom state.now (record { seat = seat; nth = nth; request = request.now })) }
 {
     let mut next = state.copy()?;
     let reply = advance(rt, &mut next, seat, nth, request)?;

@@ -3,11 +3,12 @@
 use Told::{
     Ahead, Changed, Done, Fired, Granted, Kept, Listed, Process, Refused, Session, Stopped,
 };
+use pm_machine::{Answerer, Glance, Stepped};
 use pm_model::{
     Body, Command, Memory, Name, NameList, Question, Reason, Refusal, Reply, Request, Shown,
 };
 use pm_state::State;
-use pm_step::{Glance, Solo, Stepped, glance, step};
+use pm_step::{Solo, glance, step};
 use std::alloc::Global;
 use std::process::Abort;
 use std::test::Fail;
@@ -200,7 +201,7 @@ static REQUESTS: &[(Ask, Told, u64)] = &[
 
 #[test]
 fn reviews_leave_the_version(rt: HostRuntime) {
-    let mut solo = Solo::new(rt.alloc()).expect(&rt, "memory");
+    let mut solo = Solo::opening(rt.alloc()).expect(&rt, "memory");
     for (ask, want, version) in REQUESTS {
         let came = answer(&rt, &mut solo, &request(&rt, None, *ask));
         assert_eq!(rt; came, (*want, *version));

@@ -17,6 +17,7 @@ ghost use Rattle.pm_worker.specs.Answering.{next_asked, Speaks, Replies, Answers
 use crate::gates::{Gate, Phase};
 use pm_house::{Home, House, Looked, Replied, Seat};
 use pm_json::{LONGEST_REPLY, read_request};
+use pm_machine::Version;
 use pm_model::{Asked, BadLine, Keep, LineEvent, Memory, Reply, Request, What};
 use pm_session::Session;
 use std::alloc::Global;
@@ -25,11 +26,11 @@ use std::thread::Threads;
 
 // The desk's answer.
 #[tactic(auto, using(crate::proofs::Speaking::submits_speaks))]
-fn submit<K: Keep + Drop, H: Home, R: Threads + Wait + Sync>(
+fn submit<V: Version, K: Keep + Drop, H: Home, R: Threads + Wait + Sync>(
     rt: &R,
     alloc: Global,
-    house: &House<K, H>,
-    seat: &mut Seat<H>,
+    house: &House<V, K, H>,
+    seat: &mut Seat<V, H>,
     request: &Request,
 ) -> Result<Replied, Memory>
     ensures ok { IfOk result (λ r. Speaks (NeverFails K.faults) seat.old seat.new (what.Request request.now) r.reply r.version) }
@@ -40,11 +41,11 @@ fn submit<K: Keep + Drop, H: Home, R: Threads + Wait + Sync>(
 
 // The answer by a look, or the desk's.
 #[tactic(auto, using(crate::proofs::Speaking::looks_speaks, crate::proofs::Speaking::rests_speaks, pm_house::proofs::Sitting::rests_then))]
-fn ask<K: Keep + Drop, H: Home, R: Threads + Wait + Sync>(
+fn ask<V: Version, K: Keep + Drop, H: Home, R: Threads + Wait + Sync>(
     rt: &R,
     alloc: Global,
-    house: &House<K, H>,
-    seat: &mut Seat<H>,
+    house: &House<V, K, H>,
+    seat: &mut Seat<V, H>,
     request: &Request,
 ) -> Result<Replied, Memory>
     ensures ok { IfOk result (λ r. Speaks (NeverFails K.faults) seat.old seat.new (what.Request request.now) r.reply r.version) }
@@ -59,7 +60,7 @@ fn ask<K: Keep + Drop, H: Home, R: Threads + Wait + Sync>(
 
 // The answer to a line that is no request.
 #[tactic(auto, using(crate::proofs::Speaking::bad_speaks))]
-fn bad<H: Home>(seat: &mut Seat<H>, bad: &BadLine) -> Replied
+fn bad<V: Version, H: Home>(seat: &mut Seat<V, H>, bad: &BadLine) -> Replied
     ensures { Speaks (Unit {0}) seat.old seat.new (what.Bad bad.now) result.reply result.version }
 {
     let version = seat.version();
@@ -71,11 +72,11 @@ fn bad<H: Home>(seat: &mut Seat<H>, bad: &BadLine) -> Replied
 
 // The seat's answer to what is asked.
 #[tactic(auto, using(crate::proofs::Speaking::speaks_always))]
-fn speak<K: Keep + Drop, H: Home, R: Threads + Wait + Sync>(
+fn speak<V: Version, K: Keep + Drop, H: Home, R: Threads + Wait + Sync>(
     rt: &R,
     alloc: Global,
-    house: &House<K, H>,
-    seat: &mut Seat<H>,
+    house: &House<V, K, H>,
+    seat: &mut Seat<V, H>,
     what: &What,
 ) -> Result<Replied, Memory>
     ensures ok { IfOk result (λ r. Speaks (NeverFails K.faults) seat.old seat.new what.now r.reply r.version) }
@@ -88,10 +89,10 @@ fn speak<K: Keep + Drop, H: Home, R: Threads + Wait + Sync>(
 }
 
 // Appends the line of what the seat has said.
-fn put<H: Home>(
+fn put<V: Version, H: Home>(
     session: &mut Session,
     id: Option<u64>,
-    seat: &Seat<H>,
+    seat: &Seat<V, H>,
     spoken: &Replied,
 ) -> Result<(), Memory>
     requires { IsNameable (λ n. is_some (element_at seat.now.machine.graph.elements n)) spoken.now.reply }
@@ -101,26 +102,27 @@ fn put<H: Home>(
     ensures capacity { session.old.capacity ≤ session.new.capacity }
     ensures waiting { session.new.waiting ≡ session.old.waiting }
 {
-    session.reply(id, spoken.version, &spoken.reply, seat.shown().graph())
+    let shown = seat.shown();
+    shown.known();
+    session.reply(id, spoken.version, &spoken.reply, shown)
 }
 
 // What each seat keeps of the version that it shows.
-fn known<H: Home>(seat: &Seat<H>)
+fn known<V: Version, H: Home>(seat: &Seat<V, H>)
     ensures replayed { IsReplayed seat.now.machine }
     ensures formed { IsWellFormed seat.now.machine.graph }
 {
-    seat.shown().replayed();
-    seat.shown().graph().formed();
+    seat.shown().known();
 }
 
 // Answers what was asked. With room for the reply there is no want of memory once the seat has answered, but for a
 // review's list, which the seat was told of nothing for.
 #[tactic(auto, using(crate::proofs::Speaking::speaks_nameable, crate::proofs::Speaking::speaks_replies, crate::proofs::Speaking::unprinted_rests))]
-fn answer<K: Keep + Drop, H: Home, R: Threads + Wait + Sync>(
+fn answer<V: Version, K: Keep + Drop, H: Home, R: Threads + Wait + Sync>(
     rt: &R,
     alloc: Global,
-    house: &House<K, H>,
-    seat: &mut Seat<H>,
+    house: &House<V, K, H>,
+    seat: &mut Seat<V, H>,
     session: &mut Session,
     asked: &Asked,
 ) -> Result<(), Memory>
@@ -164,11 +166,11 @@ fn take(alloc: Global, session: &mut Session) -> Result<Option<Asked>, Memory>
 
 /// Answers the first line that waits, and says whether there was one. On Memory it may wait no more, and
 /// the seat was told nothing: its request wasn't accepted.
-pub(crate) fn answer_line<K: Keep + Drop, H: Home, G: Gate, R: Threads + Wait + Sync>(
+pub(crate) fn answer_line<V: Version, K: Keep + Drop, H: Home, G: Gate, R: Threads + Wait + Sync>(
     rt: &R,
     alloc: Global,
-    house: &House<K, H>,
-    seat: &mut Seat<H>,
+    house: &House<V, K, H>,
+    seat: &mut Seat<V, H>,
     session: &mut Session,
     gate: &G,
 ) -> Result<bool, Memory>

@@ -68,6 +68,13 @@ impl<L> Conn<L> {
         &self.link
     }
 
+    /// What has come of it, and what is to be sent.
+    pub fn session(&self) -> &Session
+        ensures { result.now ≡ self.now.session }
+    {
+        &self.session
+    }
+
     /// What each connection keeps: the bytes that wait are kept as lines are.
     pub fn shaped(&self)
         ensures { shape self.now.session.waiting ≡ self.now.session.waiting }

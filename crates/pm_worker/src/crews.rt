@@ -9,31 +9,41 @@ use crate::gates::Gate;
 use crossbeam_utils::rule::Protocol;
 use pm_house::{Home, House, Seat};
 use pm_io::Link;
+use pm_machine::Version;
 use pm_model::Keep;
 use pm_publish::{Glimpse, NeverBack, Sealed};
-use pm_state::State;
 use std::alloc::Global;
 use std::sync::Wait;
 use std::thread;
 use std::thread::Threads;
 
 /// A worker: a seat, and what feeds it.
-#[derive(Drop)]
-pub struct Crew<F, H: Home>
+pub struct Crew<F, V: Version, H: Home>
 where
-    NeverBack: Protocol<Sealed<State, H>, Glimpse>,
+    NeverBack: Protocol<Sealed<V, H>, Glimpse>,
 {
-    pub seat: Seat<H>,
+    pub seat: Seat<V, H>,
     pub feed: F,
 }
 
-fn work_one<L: Link + Drop, K: Keep + Drop, H: Home, G: Gate, F: Feed<L>, R: Threads + Wait + Sync>(
-    rt: &R,
-    alloc: Global,
-    house: &House<K, H>,
-    gate: &G,
-    member: &mut Crew<F, H>,
-)
+impl<F: Drop, V: Version, H: Home> Drop for Crew<F, V, H>
+where
+    NeverBack: Protocol<Sealed<V, H>, Glimpse>,
+{
+    fn drop(self) {
+        let Crew { seat: _, feed: _ } = self;
+    }
+}
+
+fn work_one<
+    L: Link + Drop,
+    V: Version,
+    K: Keep + Drop,
+    H: Home,
+    G: Gate,
+    F: Feed<L>,
+    R: Threads + Wait + Sync,
+>(rt: &R, alloc: Global, house: &House<V, K, H>, gate: &G, member: &mut Crew<F, V, H>)
     requires { F.out member.old.feed ≡ None }
     ensures stopped { F.stopped member.new.feed ≡ true }
     ensures works { Works member.old.seat member.new.seat }
@@ -44,12 +54,13 @@ fn work_one<L: Link + Drop, K: Keep + Drop, H: Home, G: Gate, F: Feed<L>, R: Thr
 // Each member works, until its feed has stopped.
 fn work_all<
     L: Link + Drop + Send,
+    V: Version + Send + Sync,
     K: Keep + Drop + Send,
     H: Home + Send + Sync,
     G: Gate + Send + Sync,
     F: Feed<L> + Send + Drop,
     R: Threads + Wait + Sync,
->(rt: &R, alloc: Global, house: &House<K, H>, crew: &mut [Crew<F, H>], gate: &G)
+>(rt: &R, alloc: Global, house: &House<V, K, H>, crew: &mut [Crew<F, V, H>], gate: &G)
     requires { All (λ m. F.out m.feed ≡ None) crew.old }
     ensures count { length crew.new ≡ length crew.old }
     ensures stopped { (i : ℕ) (d : _) → i < length crew.old → F.stopped (slice_index_or crew.new i d).feed ≡ true }
@@ -59,7 +70,7 @@ fn work_all<
         rt,
         crew,
         32,
-        &|_, member: &mut Crew<F, H>|
+        &|_, member: &mut Crew<F, V, H>|
             requires { F.out member.old.feed ≡ None }
             ensures stopped { F.stopped member.new.feed ≡ true }
             ensures works { Works member.old.seat member.new.seat }
@@ -68,11 +79,11 @@ fn work_all<
 }
 
 // One seat meets each member's.
-fn meet_each<K: Keep + Drop, H: Home, F, R: Wait>(
+fn meet_each<V: Version, K: Keep + Drop, H: Home, F, R: Wait>(
     rt: &R,
-    house: &House<K, H>,
-    first: &mut Seat<H>,
-    others: &mut [Crew<F, H>],
+    house: &House<V, K, H>,
+    first: &mut Seat<V, H>,
+    others: &mut [Crew<F, V, H>],
 )
     ensures first { Works first.old first.new }
     ensures count { length others.new ≡ length others.old }
@@ -84,10 +95,10 @@ fn meet_each<K: Keep + Drop, H: Home, F, R: Wait>(
 }
 
 // The first member's seat meets each other member's.
-fn meet_all<K: Keep + Drop, H: Home, F, R: Wait>(
+fn meet_all<V: Version, K: Keep + Drop, H: Home, F, R: Wait>(
     rt: &R,
-    house: &House<K, H>,
-    crew: &mut [Crew<F, H>],
+    house: &House<V, K, H>,
+    crew: &mut [Crew<F, V, H>],
 )
     ensures count { length crew.new ≡ length crew.old }
     ensures met { (i : ℕ) (d : _) → i < length crew.old → HasMet (slice_index_or crew.new 0 d).seat (slice_index_or crew.old i d).seat (slice_index_or crew.new i d).seat (slice_index_or crew.old i d).feed (slice_index_or crew.new i d).feed }
@@ -102,12 +113,13 @@ fn meet_all<K: Keep + Drop, H: Home, F, R: Wait>(
 /// the first one shows.
 pub fn run_workers<
     L: Link + Drop + Send,
+    V: Version + Send + Sync,
     K: Keep + Drop + Send,
     H: Home + Send + Sync,
     G: Gate + Send + Sync,
     F: Feed<L> + Send + Drop,
     R: Threads + Wait + Sync,
->(rt: &R, alloc: Global, house: &House<K, H>, crew: &mut [Crew<F, H>], gate: &G)
+>(rt: &R, alloc: Global, house: &House<V, K, H>, crew: &mut [Crew<F, V, H>], gate: &G)
     requires { All (λ m. F.out m.feed ≡ None) crew.old }
     ensures stopped { (i : ℕ) (d : _) → i < length crew.old → F.stopped (slice_index_or crew.new i d).feed ≡ true }
     ensures works { (i : ℕ) (d : _) → i < length crew.old → Works (slice_index_or crew.old i d).seat (slice_index_or crew.new i d).seat }

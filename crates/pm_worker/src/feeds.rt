@@ -12,6 +12,7 @@ use crate::serving::serve_turn;
 use crate::turns::Turn;
 use pm_house::{Home, House, Seat};
 use pm_io::Link;
+use pm_machine::Version;
 use pm_model::Keep;
 use std::alloc::Global;
 use std::sync::Wait;
@@ -48,14 +49,15 @@ pub trait Feed<L: Link> {
 }
 
 /// Serves what a feed gives, until it stops.
-pub fn work<L: Link + Drop, K: Keep + Drop, H: Home, G: Gate, F: Feed<L>, R: Threads + Wait + Sync>(
-    rt: &R,
-    alloc: Global,
-    house: &House<K, H>,
-    seat: &mut Seat<H>,
-    feed: &mut F,
-    gate: &G,
-)
+pub fn work<
+    L: Link + Drop,
+    V: Version,
+    K: Keep + Drop,
+    H: Home,
+    G: Gate,
+    F: Feed<L>,
+    R: Threads + Wait + Sync,
+>(rt: &R, alloc: Global, house: &House<V, K, H>, seat: &mut Seat<V, H>, feed: &mut F, gate: &G)
     requires { F.out feed.old ≡ None }
     ensures stopped { F.stopped feed.new ≡ true }
     ensures out { F.out feed.new ≡ None }

@@ -19,6 +19,3 @@ pub use gates::{Gate, OpenGate, Phase};
 pub use list_feed::{ListFeed, Over};
 pub use serving::serve_turn;
 pub use turns::Turn;
-
-#[cfg(test)]
-mod tests;

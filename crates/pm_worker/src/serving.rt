@@ -12,6 +12,7 @@ use crate::turns::Turn;
 use pm_house::{Home, House, Seat};
 use pm_io::{Link, LinkRead};
 use pm_json::LONGEST_REPLY;
+use pm_machine::Version;
 use pm_model::{Keep, Memory};
 use pm_session::Session;
 use std::alloc::Global;
@@ -19,11 +20,11 @@ use std::sync::Wait;
 use std::thread::Threads;
 
 // A turn over a link and a session.
-fn serve<L: Link, K: Keep + Drop, H: Home, G: Gate, R: Threads + Wait + Sync>(
+fn serve<L: Link, V: Version, K: Keep + Drop, H: Home, G: Gate, R: Threads + Wait + Sync>(
     rt: &R,
     alloc: Global,
-    house: &House<K, H>,
-    seat: &mut Seat<H>,
+    house: &House<V, K, H>,
+    seat: &mut Seat<V, H>,
     link: &mut L,
     session: &mut Session,
     gate: &G,
@@ -70,11 +71,11 @@ fn serve<L: Link, K: Keep + Drop, H: Home, G: Gate, R: Threads + Wait + Sync>(
 }
 
 /// One turn of a connection. A `survey` among its lines may start threads, which end within the turn.
-pub fn serve_turn<L: Link, K: Keep + Drop, H: Home, G: Gate, R: Threads + Wait + Sync>(
+pub fn serve_turn<L: Link, V: Version, K: Keep + Drop, H: Home, G: Gate, R: Threads + Wait + Sync>(
     rt: &R,
     alloc: Global,
-    house: &House<K, H>,
-    seat: &mut Seat<H>,
+    house: &House<V, K, H>,
+    seat: &mut Seat<V, H>,
     conn: &mut Conn<L>,
     gate: &G,
 ) -> Turn

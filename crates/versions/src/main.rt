@@ -6,9 +6,10 @@
 
 mod policy;
 
+use pm_machine::Stepped;
 use pm_model::{Command, Memory, Name, Parents, Reach};
 use pm_state::State;
-use pm_step::{Stepped, step};
+use pm_step::step;
 use policy::{admin, class_name, element_name, policy};
 use std::alloc::Global;
 use std::env;

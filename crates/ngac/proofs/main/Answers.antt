@@ -3,7 +3,7 @@ use Rattle.std.specs.Prelude.{Result, String}
 use Rattle.std.specs.declared.alloc.Global.{Global}
 use Rattle.std.specs.declared.io.Error.{Error}
 use Rattle.std.specs.declared.vec.IntoIter.{IntoIter}
-use Rattle.ngac.specs.Words.{AskServe}
+use Rattle.pm_program.specs.Words.{AskServe}
 use Rattle.ngac.proofs.main.Goals as goal
 
 -- a server that is asked for has as many workers as it may have

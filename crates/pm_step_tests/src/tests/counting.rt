@@ -87,7 +87,7 @@ fn unshare(rt: &(impl Threads + Abort + Sync), solo: &mut Solo) {
 // Of ann and bob with `docs` and the memo three pairs are of ann or of the memo, one of both.
 #[test]
 fn a_pair_of_two_reviews_is_judged_once(rt: HostRuntime) {
-    let mut solo = Solo::new(rt.alloc()).expect(&rt, "memory");
+    let mut solo = Solo::opening(rt.alloc()).expect(&rt, "memory");
     make_office(&rt, &mut solo);
     keep_caps(&rt, &mut solo, named(&rt, "ann"));
     keep_entries(&rt, &mut solo, named(&rt, "memo"));
@@ -100,7 +100,7 @@ fn a_pair_of_two_reviews_is_judged_once(rt: HostRuntime) {
 // The new attribute that the response makes is one more that root may have rights on.
 #[test]
 fn what_responses_change_is_judged(rt: HostRuntime) {
-    let mut solo = Solo::new(rt.alloc()).expect(&rt, "memory");
+    let mut solo = Solo::opening(rt.alloc()).expect(&rt, "memory");
     answer(&rt, &mut solo, &request(&rt, None, Ask::Allow));
     keep_caps(&rt, &mut solo, named(&rt, "root"));
     answer(&rt, &mut solo, &oblige(&rt, "log", "read", &[Deed::Make]));
@@ -143,7 +143,7 @@ fn keep_many(rt: &(impl Threads + Abort + Alloc<A = Global> + Sync), solo: &mut 
 // Each new object is judged once for each of the 64 users.
 #[test]
 fn a_thousand_objects_beside_sixty_four_lists(rt: HostRuntime) {
-    let mut solo = Solo::new(rt.alloc()).expect(&rt, "memory");
+    let mut solo = Solo::opening(rt.alloc()).expect(&rt, "memory");
     make_class(&rt, &mut solo, "c");
     make(&rt, &mut solo, Kind::Ua, named(&rt, "g"), "c");
     make(&rt, &mut solo, Kind::Oa, named(&rt, "d"), "c");

@@ -92,7 +92,7 @@ pub(super) fn reading(
 
 #[test]
 fn an_access_is_an_entry_where_one_responds(rt: HostRuntime) {
-    let mut solo = Solo::new(rt.alloc()).expect(&rt, "memory");
+    let mut solo = Solo::opening(rt.alloc()).expect(&rt, "memory");
     answer(&rt, &mut solo, &request(&rt, None, Ask::Allow));
     assert_eq!(rt; reading(&rt, &mut solo), (Some(Granted), Granted, 1));
     answer(&rt, &mut solo, &oblige(&rt, "log", "read", &[Deed::Make]));
@@ -109,7 +109,7 @@ fn an_access_is_an_entry_where_one_responds(rt: HostRuntime) {
 
 #[test]
 fn a_withdrawn_one_does_not_respond(rt: HostRuntime) {
-    let mut solo = Solo::new(rt.alloc()).expect(&rt, "memory");
+    let mut solo = Solo::opening(rt.alloc()).expect(&rt, "memory");
     answer(
         &rt,
         &mut solo,

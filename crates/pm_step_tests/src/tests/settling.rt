@@ -115,7 +115,7 @@ fn all_are_told(
     rt: &(impl Threads + Abort + Alloc<A = Global> + Sync),
     entries: &[(OfKept, Told, u64)],
 ) {
-    let mut solo = Solo::new(rt.alloc()).expect(rt, "memory");
+    let mut solo = Solo::opening(rt.alloc()).expect(rt, "memory");
     for (of_kept, want, version) in entries {
         let came = told(rt, &mut solo, *of_kept);
         assert_eq!(rt; came, (*want, *version));
@@ -158,7 +158,7 @@ fn what_is_far_from_kept_reviews_leaves_them(rt: HostRuntime) {
 // What the response makes is told with the entry that it responds to.
 #[test]
 fn responses_are_told_of(rt: HostRuntime) {
-    let mut solo = Solo::new(rt.alloc()).expect(&rt, "memory");
+    let mut solo = Solo::opening(rt.alloc()).expect(&rt, "memory");
     told(&rt, &mut solo, OfKept::Other(Ask::Allow));
     told(&rt, &mut solo, OfKept::KeepCaps("root"));
     answer(&rt, &mut solo, &oblige(&rt, "log", "read", &[Deed::Make]));

@@ -1,0 +1,153 @@
+//! The server: one house, a worker for each of its seats, and the acceptor.
+
+ghost use Rattle.std.specs.Prelude.{◌≡◌, ◌<◌, ◌≤◌, None};
+
+use crossbeam_utils::rule::Protocol;
+use pm_house::{Home, House, Seat, Seats, house_room};
+use pm_io::NoKeep;
+use pm_model::{Memory, Sink};
+use pm_publish::{Glimpse, NeverBack, Opened, Sealed};
+use pm_run::{Status, write_all};
+use pm_server::{Door, Entrance, Gateway, OpenError, PollFeed, open_gateway};
+use pm_step::Edition;
+use pm_worker::{Crew, OpenGate, run_workers};
+use std::alloc::Global;
+use std::marker::{Brand, Model};
+use std::net::Net;
+use std::sync::Wait;
+use std::sync::ledger::Blank;
+use std::thread;
+use std::thread::Threads;
+use std::time::Clock;
+
+/// The workers, none of which has been given a connection.
+struct Staff<'a, H: Home, R>
+where
+    NeverBack: Protocol<Sealed<Edition, H>, Glimpse>,
+{
+    crew: Vec<Crew<PollFeed<'a, R>, Edition, H>>,
+}
+
+impl<'a, H: Home, R> Model for Staff<'a, H, R>
+where
+    NeverBack: Protocol<Sealed<Edition, H>, Glimpse>,
+{
+    ghost use Rattle.std.specs.Prelude.{◌≡◌, None, All, ℕ, length};
+
+    ghost Value = { ℕ };
+
+    ghost view = { λ s. length s.crew.items };
+
+    ghost invariant = { λ s. All (λ m. m.feed.out ≡ None) s.crew.items };
+}
+
+impl<'a, H: Home, R> Drop for Staff<'a, H, R>
+where
+    NeverBack: Protocol<Sealed<Edition, H>, Glimpse>,
+{
+    fn drop(self) {
+        let Staff { crew: _ } = self;
+    }
+}
+
+impl<'a, H: Home, R: Wait> Staff<'a, H, R> {
+    fn hire(&mut self, seat: Seat<Edition, H>, feed: PollFeed<'a, R>) -> Result<(), Memory>
+        requires { feed.out ≡ None }
+    {
+        self.crew.push(Crew { seat, feed })?;
+        Ok(())
+    }
+}
+
+impl<'a, H: Home + Send + Sync, R: Threads + Wait + Alloc<A = Global> + Sync> Staff<'a, H, R> {
+    // All work, until polling fails.
+    fn work(self, rt: &R, house: &House<Edition, NoKeep, H>) {
+        let Staff { mut crew } = self;
+        run_workers(rt, rt.alloc(), house, &mut crew, &OpenGate);
+    }
+}
+
+// A worker for each seat, and the door to it.
+fn hire_all<'a, H: Home, R: Wait + Net>(
+    rt: &'a R,
+    alloc: Global,
+    seats: &mut Seats<Edition, H>,
+    staff: &mut Staff<'a, H, R>,
+    doors: &mut Vec<Door>,
+    workers: u32,
+) -> Result<(), OpenError> {
+    for place in 0..workers {
+        let Some(seat) = seats.seat(place) else {
+            return Ok(());
+        };
+        let Gateway { door, feed } = open_gateway(rt, alloc)?;
+        staff.hire(seat, feed)?;
+        doors.push(door)?;
+    }
+    Ok(())
+}
+
+// Tells where it listens, as far as `out` takes the words.
+fn tell<O: Sink>(alloc: Global, out: &mut O, port: u16) -> Result<(), Memory> {
+    let line = format!(in alloc; "listening 127.0.0.1:{port}\n")?;
+    let _ = write_all(out, line.as_bytes());
+    Ok(())
+}
+
+// Serves what comes, for ever; or tells why it can't begin.
+fn run_house<
+    H: Home + Send + Sync,
+    O: Sink,
+    R: Threads + Wait + Net + Clock + Alloc<A = Global> + Sync,
+>(
+    rt: &R,
+    out: &mut O,
+    opened: Opened,
+    blank: Blank,
+    port: u16,
+    workers: u32,
+) -> Result<(), OpenError>
+    requires room { opened ≡ H.book }
+    requires ledger { (blank.name ≡ H.name) × (blank.parts ≡ H.parts) }
+    requires seats { (0 < workers) × (workers ≤ 32) × (H.all ≡ workers) × (H.parts ≡ workers) }
+{
+    let mut entrance = Entrance::open(rt, rt.alloc(), port)?;
+    let (house, mut seats) = House::<Edition, NoKeep, H>::open(
+        rt.alloc(),
+        opened,
+        blank,
+        NoKeep,
+        workers,
+    )?;
+    let mut staff = Staff {
+        crew: Vec::new(rt.alloc()),
+    };
+    let mut doors = Vec::new(rt.alloc());
+    hire_all(rt, rt.alloc(), &mut seats, &mut staff, &mut doors, workers)?;
+    tell(rt.alloc(), out, entrance.port()?)?;
+    thread::join(
+        rt,
+        || entrance.accept_all(rt, &mut doors),
+        || staff.work(rt, &house),
+    );
+    Ok(())
+}
+
+/// Listens on this port of 127.0.0.1, tells the port on `out`, and serves each connection by one of so many workers, until
+/// the process is ended. It comes back only where it can't begin.
+pub(crate) fn serve<O: Sink, R: Threads + Wait + Net + Clock + Alloc<A = Global> + Sync>(
+    rt: &R,
+    out: &mut O,
+    port: u16,
+    workers: u16,
+) -> Status
+    requires { (0 < workers) × (workers ≤ 32) }
+{
+    let workers = u32::from(workers);
+    let (opened, blank) = house_room(workers);
+    match run_house::<Brand, O, R>(rt, out, opened, blank, port, workers) {
+        Ok(()) => Status::Done,
+        Err(OpenError::Memory) => Status::Memory,
+        Err(OpenError::System) => Status::ListenFault,
+    }
+}

@@ -1,6 +1,0 @@
--- The items that are left.
-use Rattle.std.proofs.Common.{length}
-use Rattle.pm_decide.proofs.tests.+containers_in.Given as goal
-
-abbrev pub decreases-containers_in : goal.decreases-containers_in
-decreases-containers_in l = length l.pairs.now

@@ -1,6 +1,0 @@
--- The items that are left.
-use Rattle.std.proofs.Common.{length}
-use Rattle.pm_decide.proofs.tests.+numbers_in.Given as goal
-
-abbrev pub decreases-numbers_in : goal.decreases-numbers_in
-decreases-numbers_in l = length l.grantees.now

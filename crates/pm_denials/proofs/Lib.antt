@@ -1,0 +1,4 @@
+mod Causes
+mod Computed
+mod Replies
+mod Stops

@@ -1,0 +1,123 @@
+//! Hand-offs of numbers, in one thread and in two, with answers worked out by hand.
+
+ghost use Rattle.std.specs.Prelude.{◌≡◌};
+
+use pm_handoff::{Ends, Giver, Handoff, Numbered, Refused, Taker};
+use std::sync::Wait;
+use std::test::Fail;
+use std::thread;
+use std::thread::Threads;
+
+/// An item that is its number alone.
+#[derive(Debug, Drop, PartialEq, Eq)]
+struct Item(u64);
+
+impl Numbered for Item {
+    ghost number = { λ item. item.0 };
+
+    fn number(&self) -> u64 {
+        self.0
+    }
+}
+
+#[test]
+fn two_fit_and_come_in_order(rt: HostRuntime) -> Result<(), Fail> {
+    let ends = Handoff::new(rt.alloc(), 2)?;
+    let Ends {
+        queue,
+        mut giver,
+        mut taker,
+    } = ends;
+    let given = queue.give(&rt, &mut giver, Item(7));
+    assert_eq!(rt; given, Ok(()));
+    let given = queue.give(&rt, &mut giver, Item(8));
+    assert_eq!(rt; given, Ok(()));
+    let given = queue.give(&rt, &mut giver, Item(9));
+    assert_eq!(rt; given, Err(Refused::Full(Item(9))));
+    queue.compare(&mut giver, &mut taker);
+    let taken = queue.take(&rt, &mut taker);
+    assert_eq!(rt; taken, Some(Item(7)));
+    let taken = queue.take(&rt, &mut taker);
+    assert_eq!(rt; taken, Some(Item(8)));
+    let taken = queue.take(&rt, &mut taker);
+    assert_eq!(rt; taken, None);
+    Ok(())
+}
+
+/// Gives the item with this number, again and again until there is room.
+fn give_one<R: Wait>(rt: &R, queue: &Handoff<Item>, giver: &mut Giver<Item>, number: u64)
+    requires { giver.old.place ≡ queue.now.place }
+    ensures { giver.new.place ≡ giver.old.place }
+{
+    let mut item = Item(number);
+    for _ in rt.forever() {
+        match queue.give(rt, giver, item) {
+            Ok(()) => return,
+            Err(Refused::Full(back)) => item = back,
+        }
+        thread::yield_now();
+    }
+}
+
+fn give_all<R: Wait>(rt: &R, queue: &Handoff<Item>, mut giver: Giver<Item>, last: u64)
+    requires { giver.place ≡ queue.now.place }
+{
+    for number in 0..last {
+        give_one(rt, queue, &mut giver, number);
+    }
+}
+
+/// Takes one item, waiting until there is one, and tells its number.
+fn take_one<R: Wait>(rt: &R, queue: &Handoff<Item>, taker: &mut Taker<Item>) -> u64
+    requires { taker.old.place ≡ queue.now.place }
+    ensures { taker.new.place ≡ taker.old.place }
+{
+    for _ in rt.forever() {
+        if let Some(item) = queue.take(rt, taker) {
+            return item.number();
+        }
+        thread::yield_now();
+    }
+    unreachable!()
+}
+
+/// How many of so many items come in order, before the first that doesn't.
+fn count_in_order<R: Wait>(rt: &R, queue: &Handoff<Item>, mut taker: Taker<Item>, last: u64) -> u64
+    requires { taker.place ≡ queue.now.place }
+{
+    for number in 0..last {
+        if take_one(rt, queue, &mut taker) != number {
+            return number;
+        }
+    }
+    last
+}
+
+fn run_both<R: Threads + Wait + Sync>(rt: &R, ends: Ends<Item>, last: u64) -> u64
+    requires giver { ends.giver.place ≡ ends.queue.place }
+    requires taker { ends.taker.place ≡ ends.queue.place }
+{
+    let Ends {
+        queue,
+        giver,
+        taker,
+    } = ends;
+    let line = &queue;
+    let (_, in_order) = thread::join(
+        rt,
+        move ||
+            requires { giver.place ≡ line.now.place }
+        { give_all(rt, line, giver, last) },
+        move ||
+            requires { taker.place ≡ line.now.place }
+        { count_in_order(rt, line, taker, last) },
+    );
+    in_order
+}
+
+#[test]
+fn a_hundred_come_in_order_from_another_thread(rt: HostRuntime) -> Result<(), Fail> {
+    let ends = Handoff::new(rt.alloc(), 2)?;
+    assert_eq!(rt; run_both(&rt, ends, 100), 100);
+    Ok(())
+}

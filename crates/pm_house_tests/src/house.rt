@@ -1,0 +1,247 @@
+//! Houses of one and two seats, with answers worked out by hand.
+
+ghost use Rattle.std.specs.Prelude.{◌≡◌, ◌<◌, ◌≤◌, [], IfSome};
+
+mod asking;
+
+use asking::{
+    Ask, Told, fault_at, letter, look, never_falls, policy, request, start_processes, submit,
+};
+use crossbeam_utils::rule::Protocol;
+use pm_house::{Home, House, Seat, Seats, house_room};
+use pm_io::{MemKeep, NoKeep};
+use pm_machine::Version;
+use pm_model::{Keep, Kind};
+use pm_publish::{Glimpse, NeverBack, Opened, Sealed};
+use pm_step::Edition;
+use std::alloc::Global;
+use std::marker::Brand;
+use std::process::Abort;
+use std::sync::Wait;
+use std::sync::ledger::Blank;
+use std::thread;
+use std::thread::Threads;
+
+fn house_of<K: Keep + Drop, H: Home, R: Abort + Alloc<A = Global>>(
+    rt: &R,
+    opened: Opened,
+    blank: Blank,
+    keeper: K,
+    seats: u32,
+) -> (House<Edition, K, H>, Seats<Edition, H>)
+    requires room { opened ≡ H.book }
+    requires ledger { (blank.name ≡ H.name) × (blank.parts ≡ H.parts) }
+    requires seats { (0 < seats) × (seats ≤ 32) × (H.all ≡ seats) × (H.parts ≡ seats) }
+    requires keeper { IfSome (K.kept keeper) (λ es. es ≡ []) }
+{
+    House::open(rt.alloc(), opened, blank, keeper, seats).expect(rt, "memory")
+}
+
+fn first_requests<H: Home, R: Threads + Wait + Abort + Alloc<A = Global> + Sync>(
+    rt: &R,
+    opened: Opened,
+    blank: Blank,
+)
+    requires room { opened ≡ H.book }
+    requires ledger { (blank.name ≡ H.name) × (blank.parts ≡ H.parts) }
+    requires seats { (H.all ≡ 2) × (H.parts ≡ 2) }
+{
+    let (house, mut seats) = house_of::<NoKeep, H, R>(rt, opened, blank, NoKeep, 2);
+    let mut one = seats.seat(0).expect(rt, "seat 0");
+    let mut two = seats.seat(1).expect(rt, "seat 1");
+    ask_for_a_class(rt, &house, &mut one);
+    let inside = request(rt, Ask::Make(Kind::Ua, "x", "a"));
+    assert_eq!(rt; submit(rt, &house, &mut two, &inside), (Told::Done, 2));
+}
+
+fn ask_for_a_class<H: Home, R: Threads + Wait + Abort + Alloc<A = Global> + Sync>(
+    rt: &R,
+    house: &House<Edition, NoKeep, H>,
+    seat: &mut Seat<Edition, H>,
+) {
+    let version = request(rt, Ask::Version);
+    let class = request(rt, Ask::Class("a"));
+    assert_eq!(rt; look(rt, seat, &class), None);
+    assert_eq!(rt; look(rt, seat, &version), Some((Told::Done, 0)));
+    assert_eq!(rt; submit(rt, house, seat, &version), (Told::Done, 0));
+    assert_eq!(rt; submit(rt, house, seat, &class), (Told::Done, 1));
+    assert_eq!(rt; look(rt, seat, &version), Some((Told::Done, 1)));
+}
+
+#[test]
+fn a_look_answers_and_the_desk_accepts(rt: HostRuntime) {
+    let (opened, blank) = house_room(2);
+    first_requests::<Brand, _>(&rt, opened, blank)
+}
+
+fn policy_of_a_stranger<H: Home, R: Threads + Wait + Abort + Alloc<A = Global> + Sync>(
+    rt: &R,
+    opened: Opened,
+    blank: Blank,
+)
+    requires room { opened ≡ H.book }
+    requires ledger { (blank.name ≡ H.name) × (blank.parts ≡ H.parts) }
+    requires seats { (H.all ≡ 2) × (H.parts ≡ 2) }
+{
+    let (house, mut seats) = house_of::<NoKeep, H, R>(rt, opened, blank, NoKeep, 2);
+    let mut one = seats.seat(0).expect(rt, "seat 0");
+    let mut two = seats.seat(1).expect(rt, "seat 1");
+    assert!(rt; seats.seat(0).is_none() && seats.seat(2).is_none());
+    for n in 0..12 {
+        let told = submit(rt, &house, &mut one, &request(rt, policy(n)));
+        assert_eq!(rt; told, (Told::Done, u64::from(n) + 1));
+    }
+    read_as_denied(rt, &house, &mut one, &mut two);
+}
+
+// The one has made the policy and taken from `ann` what she could read: so the other is told.
+fn read_as_denied<H: Home, R: Threads + Wait + Abort + Alloc<A = Global> + Sync>(
+    rt: &R,
+    house: &House<Edition, NoKeep, H>,
+    one: &mut Seat<Edition, H>,
+    two: &mut Seat<Edition, H>,
+) {
+    let mut read = request(rt, Ask::Read(1, "memo"));
+    read.after = Some(12);
+    assert_eq!(rt; look(rt, two, &read), Some((Told::Lacks(3), 12)));
+    assert_eq!(rt; one.version(), 12);
+    house.meet(rt, one, two);
+    assert_eq!(rt; submit(rt, house, two, &read), (Told::Lacks(3), 12));
+}
+
+#[test]
+fn a_stranger_is_told_of_the_policy(rt: HostRuntime) {
+    let (opened, blank) = house_room(2);
+    policy_of_a_stranger::<Brand, _>(&rt, opened, blank)
+}
+
+fn keeper_fails<H: Home, R: Threads + Wait + Abort + Alloc<A = Global> + Sync>(
+    rt: &R,
+    opened: Opened,
+    blank: Blank,
+    failing: u64,
+)
+    requires room { opened ≡ H.book }
+    requires ledger { (blank.name ≡ H.name) × (blank.parts ≡ H.parts) }
+    requires seats { (H.all ≡ 1) × (H.parts ≡ 1) }
+{
+    let keeper = MemKeep::new(rt.alloc(), &[failing]).expect(rt, "memory");
+    let (house, mut seats) = house_of::<MemKeep, H, R>(rt, opened, blank, keeper, 1);
+    let mut seat = seats.seat(0).expect(rt, "seat 0");
+    for entries in 0..3 {
+        if entries + 1 == failing {
+            fault_at(rt, &house, &mut seat, entries);
+        }
+        let told = submit(
+            rt,
+            &house,
+            &mut seat,
+            &request(rt, Ask::Class(letter(entries))),
+        );
+        assert_eq!(rt; told, (Told::Done, entries + 1));
+    }
+}
+
+#[test]
+fn what_cannot_be_kept_is_no_entry(rt: HostRuntime) {
+    for failing in 1..=3 {
+        let (opened, blank) = house_room(1);
+        keeper_fails::<Brand, _>(&rt, opened, blank, failing)
+    }
+}
+
+// A caller in a thread of its own: how often it starts a process, and how often it looks.
+#[derive(Drop)]
+struct Caller<H: Home>
+where
+    NeverBack: Protocol<Sealed<Edition, H>, Glimpse>,
+{
+    seat: Seat<Edition, H>,
+    starts: u64,
+    looks: u64,
+    fine: bool,
+}
+
+fn act<H: Home, R: Threads + Wait + Abort + Alloc<A = Global> + Sync>(
+    rt: &R,
+    house: &House<Edition, NoKeep, H>,
+    caller: &mut Caller<H>,
+) {
+    let started = start_processes(rt, house, &mut caller.seat, caller.starts);
+    let stayed = never_falls(&mut caller.seat, caller.looks);
+    caller.fine = started && stayed;
+}
+
+// Each acts in a thread of its own.
+fn all_act<H: Home + Send + Sync, R: Threads + Wait + Abort + Alloc<A = Global> + Sync>(
+    rt: &R,
+    house: &House<Edition, NoKeep, H>,
+    callers: &mut [Caller<H>],
+) {
+    thread::for_each_mut(
+        rt,
+        callers,
+        4,
+        &|_, caller: &mut Caller<H>| { act(rt, house, caller) },
+    );
+}
+
+fn calling<H: Home>(seat: Seat<Edition, H>, starts: u64, looks: u64) -> Caller<H> {
+    Caller {
+        seat,
+        starts,
+        looks,
+        fine: false,
+    }
+}
+
+// One asks the desk while the other looks; then both ask, and meet.
+fn beside_one_another<H: Home + Send + Sync, R: Threads + Wait + Abort + Alloc<A = Global> + Sync>(
+    rt: &R,
+    house: &House<Edition, NoKeep, H>,
+    one: Seat<Edition, H>,
+    two: Seat<Edition, H>,
+) {
+    let mut callers = [calling(one, 30, 0), calling(two, 0, 200)];
+    all_act(rt, house, &mut callers);
+    let [one, mut two] = callers;
+    assert!(rt; one.fine && two.fine);
+    assert_eq!(rt; two.seat.version(), 30);
+    let mut callers = [calling(one.seat, 10, 0), calling(two.seat, 10, 10)];
+    all_act(rt, house, &mut callers);
+    let [one, two] = callers;
+    assert!(rt; one.fine && two.fine);
+    meet_at_last(rt, house, one.seat, two.seat);
+}
+
+fn meet_at_last<H: Home, R: Wait + Abort>(
+    rt: &R,
+    house: &House<Edition, NoKeep, H>,
+    mut one: Seat<Edition, H>,
+    mut two: Seat<Edition, H>,
+) {
+    house.meet(rt, &mut one, &mut two);
+    assert_eq!(rt; (one.shown().version(), two.shown().version()), (50, 50));
+    assert_eq!(rt; (one.made(), two.made()), (40, 10));
+}
+
+fn two_callers<H: Home + Send + Sync, R: Threads + Wait + Abort + Alloc<A = Global> + Sync>(
+    rt: &R,
+    opened: Opened,
+    blank: Blank,
+)
+    requires room { opened ≡ H.book }
+    requires ledger { (blank.name ≡ H.name) × (blank.parts ≡ H.parts) }
+    requires seats { (H.all ≡ 2) × (H.parts ≡ 2) }
+{
+    let (house, mut seats) = house_of::<NoKeep, H, R>(rt, opened, blank, NoKeep, 2);
+    let one = seats.seat(0).expect(rt, "seat 0");
+    let two = seats.seat(1).expect(rt, "seat 1");
+    beside_one_another(rt, &house, one, two);
+}
+
+#[test]
+fn threads_share_one_history(rt: HostRuntime) {
+    let (opened, blank) = house_room(2);
+    two_callers::<Brand, _>(&rt, opened, blank)
+}

@@ -1,0 +1,186 @@
+//! Turns over links in memory, with answers worked out by hand.
+
+ghost use Rattle.std.specs.Prelude.{◌≡◌, [], IfSome};
+
+mod crews;
+
+use pm_house::{Home, House, Seat, house_room};
+use pm_io::{MemKeep, MemLink, NoKeep};
+use pm_model::Keep;
+use pm_publish::Opened;
+use pm_step::Edition;
+use pm_worker::{Conn, Gate, OpenGate, Phase, Turn, serve_turn};
+use std::alloc::Global;
+use std::marker::Brand;
+use std::process::Abort;
+use std::sync::Wait;
+use std::sync::atomic::{AtomicU32, Ordering};
+use std::sync::ledger::Blank;
+use std::thread::Threads;
+
+// The house of one seat, and its seat.
+fn house_of_one<K: Keep + Drop, H: Home, R: Abort + Alloc<A = Global>>(
+    rt: &R,
+    opened: Opened,
+    blank: Blank,
+    keeper: K,
+) -> (House<Edition, K, H>, Seat<Edition, H>)
+    requires room { opened ≡ H.book }
+    requires ledger { (blank.name ≡ H.name) × (blank.parts ≡ H.parts) }
+    requires seats { (H.all ≡ 1) × (H.parts ≡ 1) }
+    requires keeper { IfSome (K.kept keeper) (λ es. es ≡ []) }
+{
+    let (house, mut seats) = House::open(rt.alloc(), opened, blank, keeper, 1).expect(rt, "memory");
+    let seat = seats.seat(0).expect(rt, "seat 0");
+    (house, seat)
+}
+
+// The turns of a connection over this link end so, one after another; it comes back.
+fn served<K: Keep + Drop, H: Home, R: Threads + Wait + Abort + Alloc<A = Global> + Sync>(
+    rt: &R,
+    house: &House<Edition, K, H>,
+    seat: &mut Seat<Edition, H>,
+    link: MemLink,
+    turns: &[Turn],
+) -> Conn<MemLink> {
+    let mut conn = Conn::new(rt.alloc(), 5, link).expect(rt, "memory");
+    for turn in turns {
+        assert_eq!(rt;
+            serve_turn(rt, rt.alloc(), house, seat, &mut conn, &OpenGate),
+            *turn
+        );
+    }
+    assert_eq!(rt; conn.number(), 5);
+    conn
+}
+
+const ASKED: &[u8] = b"{\"cmd\":\"version\"}\n";
+
+const TOLD: &[u8] = b"{\"ok\":\"done\",\"v\":0}\n";
+
+// A line is read, its reply written, and the end read: which of the three calls can do nothing and which fail, and how the
+// turns end then, with what was taken and what is still to be sent.
+fn one_line<H: Home, R: Threads + Wait + Abort + Alloc<A = Global> + Sync>(
+    rt: &R,
+    opened: Opened,
+    blank: Blank,
+)
+    requires room { opened ≡ H.book }
+    requires ledger { (blank.name ≡ H.name) × (blank.parts ≡ H.parts) }
+    requires seats { (H.all ≡ 1) × (H.parts ≡ 1) }
+{
+    let (house, mut seat) = house_of_one::<NoKeep, H, R>(rt, opened, blank, NoKeep);
+    let table: [(&[u64], &[u64], &[Turn], &[u8], &[u8]); 7] = [
+        (&[], &[], &[Turn::Ended], TOLD, b""),
+        (&[], &[1], &[Turn::LinkFault], b"", b""),
+        (&[], &[2], &[Turn::LinkFault], b"", TOLD),
+        (&[], &[3], &[Turn::LinkFault], TOLD, b""),
+        (&[1], &[], &[Turn::Idle, Turn::Ended], TOLD, b""),
+        (&[2], &[], &[Turn::Idle, Turn::Ended], TOLD, b""),
+        (&[3], &[], &[Turn::Idle, Turn::Ended], TOLD, b""),
+    ];
+    for (agains, failing, turns, taken, left) in &table {
+        let link = MemLink::new(rt.alloc(), ASKED, 64, &[], agains, failing).expect(rt, "memory");
+        let conn = served(rt, &house, &mut seat, link, turns);
+        assert_eq!(rt; conn.link().taken(), *taken);
+        assert_eq!(rt; conn.session().out(), *left);
+    }
+}
+
+#[test]
+fn a_link_may_fail_at_each_call(rt: HostRuntime) {
+    let (opened, blank) = house_room(1);
+    one_line::<Brand, _>(&rt, opened, blank)
+}
+
+// Lines that are answered in many ways, the third time that something is to be kept without success.
+const MIXED: &[u8] =
+    b"{\"cmd\":\"create_pc\",\"id\":1,\"name\":\"files\",\"proc\":0}\n{\"cmd\":\"create_pc\",\"id\":2,\"name\":\"files\",\"proc\":0}\nx\n{\"cmd\":\"fly\",\"id\":3}\n{\"cmd\":\"caps\",\"proc\":0,\"user\":\"root\"}\n{\"cmd\":\"open_session\",\"user\":\"root\"}\n{\"cmd\":\"version\",\"after\":9}\n{\"cmd\":\"create_pc\",\"name\":\"b\",\"proc\":0}\n{\"cmd\":\"create_pc\",\"name\":\"b\",\"proc\":0}\n{\"cmd\":\"ver";
+
+const REPLIED: &[u8] =
+    b"{\"id\":1,\"ok\":\"done\",\"v\":1}\n{\"id\":2,\"no\":\"name_taken\",\"v\":1}\n{\"no\":\"not_json\",\"v\":1}\n{\"id\":3,\"no\":\"unknown_command\",\"v\":1}\n{\"list\":[],\"ok\":\"caps\",\"v\":1}\n{\"ok\":\"done\",\"session\":1,\"v\":2}\n{\"no\":\"ahead\",\"v\":2}\n{\"no\":\"keep_fault\",\"v\":2}\n{\"ok\":\"done\",\"v\":3}\n";
+
+// Counts the lines that were taken, and those that were replied to.
+#[derive(Drop)]
+struct Passes {
+    taken: AtomicU32,
+    replied: AtomicU32,
+}
+
+impl Gate for Passes {
+    fn pass(&self, _seat: u32, phase: Phase) {
+        let count = match phase {
+            Phase::Taken => &self.taken,
+            Phase::Replied => &self.replied,
+        };
+        count.fetch_add(1, Ordering::SeqCst);
+    }
+}
+
+fn mixed<H: Home, R: Threads + Wait + Abort + Alloc<A = Global> + Sync>(
+    rt: &R,
+    opened: Opened,
+    blank: Blank,
+)
+    requires room { opened ≡ H.book }
+    requires ledger { (blank.name ≡ H.name) × (blank.parts ≡ H.parts) }
+    requires seats { (H.all ≡ 1) × (H.parts ≡ 1) }
+{
+    let keeper = MemKeep::new(rt.alloc(), &[3]).expect(rt, "memory");
+    let (house, mut seat) = house_of_one::<MemKeep, H, R>(rt, opened, blank, keeper);
+    let gate = Passes {
+        taken: AtomicU32::new(0),
+        replied: AtomicU32::new(0),
+    };
+    let link = MemLink::new(rt.alloc(), MIXED, 4096, &[100, 1], &[2], &[]).expect(rt, "memory");
+    let mut conn = Conn::new(rt.alloc(), 0, link).expect(rt, "memory");
+    for turn in [Turn::Idle, Turn::Ended] {
+        assert_eq!(rt;
+            serve_turn(rt, rt.alloc(), &house, &mut seat, &mut conn, &gate),
+            turn
+        );
+    }
+    assert_eq!(rt; conn.link().taken(), REPLIED);
+    assert_eq!(rt; gate.taken.load(Ordering::SeqCst), 9);
+    assert_eq!(rt; gate.replied.load(Ordering::SeqCst), 9);
+}
+
+#[test]
+fn each_line_has_its_reply(rt: HostRuntime) {
+    let (opened, blank) = house_room(1);
+    mixed::<Brand, _>(&rt, opened, blank)
+}
+
+// Lines that leave the machine as it is.
+const FREE: &[u8] =
+    b"{\"cmd\":\"version\",\"id\":4}\n\n{\"cmd\":\"caps\",\"proc\":0,\"user\":\"root\"}\n[]\n";
+
+const FREELY: &[u8] =
+    b"{\"id\":4,\"ok\":\"done\",\"v\":0}\n{\"no\":\"not_json\",\"v\":0}\n{\"list\":[],\"ok\":\"caps\",\"v\":0}\n{\"no\":\"not_request\",\"v\":0}\n";
+
+fn pieces<H: Home, R: Threads + Wait + Abort + Alloc<A = Global> + Sync>(
+    rt: &R,
+    opened: Opened,
+    blank: Blank,
+)
+    requires room { opened ≡ H.book }
+    requires ledger { (blank.name ≡ H.name) × (blank.parts ≡ H.parts) }
+    requires seats { (H.all ≡ 1) × (H.parts ≡ 1) }
+{
+    let (house, mut seat) = house_of_one::<NoKeep, H, R>(rt, opened, blank, NoKeep);
+    for first in 1..72u32 {
+        let link = MemLink::new(rt.alloc(), FREE, 256, &[first], &[], &[]).expect(rt, "memory");
+        let conn = served(rt, &house, &mut seat, link, &[Turn::Ended]);
+        assert_eq!(rt; conn.link().taken(), FREELY);
+    }
+    let many = ASKED.repeat(rt.alloc(), 65).expect(rt, "memory");
+    let link = MemLink::new(rt.alloc(), &many, 4096, &[], &[], &[]).expect(rt, "memory");
+    let conn = served(rt, &house, &mut seat, link, &[Turn::More, Turn::Ended]);
+    assert_eq!(rt; conn.link().taken().len(), 65 * TOLD.len());
+}
+
+#[test]
+fn pieces_make_no_difference(rt: HostRuntime) {
+    let (opened, blank) = house_room(1);
+    pieces::<Brand, _>(&rt, opened, blank)
+}

@@ -1,0 +1,62 @@
+//! The program, over what it reads and writes.
+ghost use Rattle.std.specs.Prelude.{◌≡◌, ◌≢◌, ◌↔◌, ◌^◌, ℕ};
+ghost use Rattle.pm_model.specs.Causes.{Rose, raised};
+ghost use Rattle.pm_run.specs.Ran.{Ran, IsComplete};
+ghost use Rattle.pm_program.specs.Said.{Said};
+ghost use Rattle.pm_run.specs.Statuses.{status_text};
+ghost use Rattle.pm_program.specs.Words.{AskRun, AskServe, AskOther, LackMemory};
+
+use crate::words::{Asked, read_words};
+use pm_machine::Answerer;
+use pm_model::{Memory, Sink, Source};
+use pm_run::{Status, run_lines, write_all};
+use std::alloc::Global;
+use std::env::Args;
+use std::io;
+use std::thread::Threads;
+
+const LIMIT: u64 = 1 << 40;
+
+/// Says on `err` how the program ended, as far as it takes the words.
+pub fn say<E: Sink>(err: &mut E, status: Status)
+    ensures { Said (E.taken err.old) (E.taken err.new) (E.faults err.old) (E.faults err.new) (status_text status) }
+{
+    let _ = write_all(err, status.text().as_bytes());
+}
+
+/// The program: with the one word `run` behind its name it answers the lines of the source, up to 2^40 bytes of it. With
+/// `serve`, a port and a number of workers it tells that a server is asked for, and does nothing.
+pub fn top<M: Answerer + Drop, I: Source, O: Sink, E: Sink, R: Threads + Sync>(
+    rt: &R,
+    alloc: Global,
+    args: io::Result<Args>,
+    source: &mut I,
+    out: &mut O,
+    err: &mut E,
+) -> Status
+    ensures usage { (result ≡ Status.Usage) ↔ AskOther args }
+    ensures serve { (port workers : ℕ) → (result ≡ Status.Serve port workers) ↔ AskServe args port workers }
+    ensures listening { result ≢ Status.ListenFault }
+    ensures memory { LackMemory args → result ≡ Status.Memory }
+    ensures unread { ¬ AskRun args → source.new ≡ source.old }
+    ensures unwritten { ¬ AskRun args → out.new ≡ out.old }
+    ensures ran { Ran (2 ^ 40) (I.left source.old) (I.left source.new) (O.taken out.old) (O.taken out.new) result }
+    ensures complete { AskRun args → ¬ Rose (I.faults source.old) (I.faults source.new)
+        → ¬ Rose (O.faults out.old) (O.faults out.new) → IsComplete (2 ^ 40) (I.left source.old) result }
+    ensures read { result ≡ Status.ReadFault → Rose (I.faults source.old) (I.faults source.new) }
+    ensures read_kept { result ≢ Status.ReadFault → I.faults source.new ≡ I.faults source.old }
+    ensures write { result ≡ Status.WriteFault → Rose (O.faults out.old) (O.faults out.new) }
+    ensures write_kept { result ≢ Status.WriteFault → O.faults out.new ≡ O.faults out.old }
+    ensures end { result ≡ Status.Done → I.ends source.new ≡ raised (I.ends source.old) }
+    ensures end_kept { result ≢ Status.Done → I.ends source.new ≡ I.ends source.old }
+    ensures said { Said (E.taken err.old) (E.taken err.new) (E.faults err.old) (E.faults err.new) (status_text result) }
+{
+    let status = match read_words(args) {
+        Ok(Some(Asked::Run)) => run_lines::<M, I, O, R>(rt, alloc, LIMIT, source, out),
+        Ok(Some(Asked::Serve { port, workers })) => Status::Serve { port, workers },
+        Ok(None) => Status::Usage,
+        Err(Memory) => Status::Memory,
+    };
+    say(err, status);
+    status
+}

@@ -1,0 +1,7 @@
+pub mod Coming
+pub mod Ended
+pub mod Fronts
+pub mod Parts
+pub mod Ran
+pub mod Statuses
+pub mod Wrote

@@ -1,0 +1,199 @@
+use pm_deny::*;
+use pm_model::{
+    Bars, ChangeError, ElementId, Memory, Mode, Name, PlaceList, Prohibition, Reach, Refusal,
+    Rights, Subject, Table,
+};
+use std::alloc::Global;
+use std::process::Abort;
+use std::test::Fail;
+
+/// A prohibition: its name, its subject, its rights and its two sets.
+type Row = (
+    &'static str,
+    Subject<ElementId, u32>,
+    u64,
+    &'static [u32],
+    &'static [u32],
+);
+
+fn named(rt: &impl Abort, text: &str) -> Name {
+    Name::new(text.as_bytes()).expect(rt, "a name")
+}
+
+fn places(alloc: Global, numbers: &[u32]) -> Result<PlaceList, Memory> {
+    let mut places = PlaceList::new(alloc);
+    for number in numbers {
+        places.push(ElementId(*number))?;
+    }
+    Ok(places)
+}
+
+fn item_of(rt: &(impl Abort + Alloc<A = Global>), row: &Row) -> Result<Prohibition, Memory> {
+    let (text, subject, rights, inc, exc) = row;
+    let inc = places(rt.alloc(), inc)?;
+    let exc = places(rt.alloc(), exc)?;
+    Ok(Prohibition {
+        name: named(rt, text),
+        subject: *subject,
+        rights: Rights(*rights),
+        inc,
+        exc,
+        mode: Mode::All,
+    })
+}
+
+/// The list of these prohibitions, made in this order.
+fn list_of(rt: &(impl Abort + Alloc<A = Global>), rows: &[Row]) -> Result<Deny, DenyError> {
+    let mut list = Deny::new(rt.alloc());
+    for row in rows {
+        let Ok(item) = item_of(rt, row) else {
+            return Err(DenyError::Memory);
+        };
+        list.prohibit(item)?;
+    }
+    Ok(list)
+}
+
+/// The names, one behind the other.
+fn names_of(alloc: Global, list: &Deny) -> Result<Vec<u8>, Memory> {
+    let mut names = Vec::new(alloc);
+    for i in 0..list.len() {
+        for byte in list.at(i).name.bytes() {
+            names.push(*byte)?;
+        }
+    }
+    Ok(names)
+}
+
+/// Ends these processes.
+fn end(list: &mut Deny, ended: &[u32]) -> Result<(), Memory> {
+    list.own_processes(ended)?;
+    list.lift_processes(ended);
+    Ok(())
+}
+
+const ROWS: [Row; 6] = [
+    ("a", Subject::Process(1), 1, &[3], &[]),
+    ("b", Subject::User(ElementId(1)), 1, &[], &[4]),
+    ("c", Subject::Process(2), 2, &[5, 6], &[7, 8]),
+    ("d", Subject::Ua(ElementId(2)), 1, &[3], &[3]),
+    ("e", Subject::Process(1), 4, &[], &[9]),
+    ("f", Subject::Process(11), 1, &[3], &[]),
+];
+
+#[test]
+fn prohibitions_come_and_go(rt: HostRuntime) -> Result<(), Fail> {
+    let mut list = list_of(&rt, &ROWS)?;
+    assert!(rt; list.names(ElementId(9)));
+    assert!(rt; !list.names(ElementId(11)), "a process is no element");
+    let taken = item_of(&rt, &("c", Subject::Process(1), 1, &[], &[]))?;
+    assert_eq!(rt; list.check_prohibit(&taken), Err(DenyError::NameTaken));
+    let c = named(&rt, "c");
+    assert_eq!(rt; list.find(c), Some(2));
+    let lifted = list.lift(c)?;
+    assert!(rt; lifted.name == c);
+    assert_eq!(rt;
+        lifted.exc.as_slice(),
+        [ElementId(7), ElementId(8)].as_slice()
+    );
+    assert_eq!(rt;
+        names_of(rt.alloc(), &list)?.as_slice(),
+        b"abdef".as_slice()
+    );
+    assert_eq!(rt; list.find(c), None);
+    end(&mut list, &[11, 1, 2, 3])?;
+    assert_eq!(rt; names_of(rt.alloc(), &list)?.as_slice(), b"bd".as_slice());
+    Ok(())
+}
+
+/// Each element is in itself and in 0.
+#[derive(Drop)]
+struct InZero;
+
+impl Reach for InZero {
+    ghost use Rattle.std.specs.Prelude.{true, ◌==◌, ◌||◌};
+
+    ghost relation = { λ s. record { live = λ n. true; below = λ x y. x == y || 0 == y } };
+
+    fn contains(&mut self, x: ElementId, y: ElementId) -> bool {
+        x == y || 0 == y.number()
+    }
+
+    #[tactic(auto, using(pm_model::proofs::Bits::bit_or_has))]
+    fn above(&mut self, x: ElementId, k: u32) -> u64 {
+        x.bit_in(k) | ElementId(0).bit_in(k)
+    }
+}
+
+const BARS: [Row; 4] = [
+    ("a", Subject::User(ElementId(5)), 2, &[0], &[]),
+    ("b", Subject::Process(4), 1, &[0], &[]),
+    ("c", Subject::User(ElementId(5)), 1, &[3], &[]),
+    ("d", Subject::Ua(ElementId(0)), 1, &[3], &[]),
+];
+
+/// A user, a process, a right, an element, and the place of the first that applies.
+const ASKED: [(u32, Option<u32>, u8, u32, Option<u32>); 7] = [
+    (5, None, 0, 3, Some(2)),
+    (5, Some(4), 0, 3, Some(1)),
+    (5, Some(9), 0, 3, Some(2)),
+    (6, None, 0, 3, Some(3)),
+    (5, None, 1, 3, Some(0)),
+    (6, None, 1, 3, None),
+    (6, None, 0, 8, None),
+];
+
+#[test]
+fn the_first_of_two_applies(rt: HostRuntime) -> Result<(), Fail> {
+    let list = list_of(&rt, &BARS)?;
+    for (user, process, right, element, want) in ASKED {
+        let user = ElementId(user);
+        let element = ElementId(element);
+        let first = list.first_applying(user, process, right, element, &mut InZero);
+        assert_eq!(rt; first, want);
+    }
+    Ok(())
+}
+
+#[test]
+fn a_copy_is_another_list(rt: HostRuntime) -> Result<(), Fail> {
+    let mut list = list_of(&rt, &ROWS)?;
+    list.share()?;
+    let mut copy = list.copy()?;
+    let place = list.find(named(&rt, "a")).expect(&rt, "a place");
+    let first = list.lift_at(place)?;
+    assert!(rt; first.subject == Subject::Process(1));
+    assert_eq!(rt;
+        names_of(rt.alloc(), &list)?.as_slice(),
+        b"bcdef".as_slice()
+    );
+    assert_eq!(rt;
+        names_of(rt.alloc(), &copy)?.as_slice(),
+        b"abcdef".as_slice()
+    );
+    let third = copy.lift(named(&rt, "c"))?;
+    assert_eq!(rt;
+        third.inc.as_slice(),
+        [ElementId(5), ElementId(6)].as_slice()
+    );
+    Ok(())
+}
+
+#[test]
+fn errors_are_told_as_refusals(rt: HostRuntime) {
+    let taken = change_error(DenyError::NameTaken);
+    assert!(rt; matches!(taken, ChangeError::Refused(Refusal::NameTaken)));
+    let empty = change_error(DenyError::EmptyRange);
+    assert!(rt; matches!(empty, ChangeError::Refused(Refusal::EmptyRange)));
+    let full = change_error(DenyError::Full);
+    assert!(rt;
+        matches!(
+            full,
+            ChangeError::Refused(Refusal::Full(Table::Prohibitions))
+        )
+    );
+    let absent = change_error(DenyError::Absent);
+    assert!(rt; matches!(absent, ChangeError::Refused(Refusal::Absent)));
+    let memory = change_error(DenyError::Memory);
+    assert!(rt; matches!(memory, ChangeError::Memory));
+}
