@@ -1,7 +1,7 @@
 //! The lines that are asked.
 
-use pm_json::read_request;
 use pm_model::{Request, What};
+use pm_read::read_request;
 use std::io::{BufRead, BufReader};
 
 /// The requests of the three parts.

@@ -6,6 +6,8 @@ use Rattle.pm_model.specs.declared.requests.Change.{Change}
 use Rattle.pm_model.specs.declared.requests.Change.TheVariants as change
 use Rattle.pm_model.specs.declared.requests.Command.{Command}
 use Rattle.pm_model.specs.declared.requests.Command.TheVariants.{Prohibit, Oblige}
+use Rattle.pm_model.specs.declared.requests.Question.{Question}
+use Rattle.pm_model.specs.declared.requests.Question.TheVariants.{Survey}
 use Rattle.pm_model.specs.declared.replies.Refusal.{Refusal}
 use Rattle.pm_model.specs.declared.replies.ChangeError.{ChangeError}
 use Rattle.pm_model.specs.declared.replies.ChangeError.TheVariants.{Refused, Memory}
@@ -21,6 +23,11 @@ abbrev pub holds_lists : Command → Bool
 holds_lists (Prohibit name subject rights inc exc mode) = true
 holds_lists (Oblige name when response) = true
 holds_lists _ = false
+
+-- the review that comes of the question holds a list of its own: the users of a survey
+abbrev pub is_survey : Question → Bool
+is_survey (Survey users) = true
+is_survey _ = false
 
 -- what the change names is live, whoever is to be the author
 abbrev pub IsFound : Graph → Change → Type 0

@@ -1,7 +1,7 @@
 //! The ruling on an access.
 ghost use Rattle.std.specs.Prelude.{◌≡◌, ◌<◌, IfOk};
 ghost use Rattle.pm_model.specs.Answer.{acting, if_access, accessed, allowed_unless};
-ghost use Rattle.pm_model.specs.RightSet.{bit_named};
+ghost use Rattle.pm_model.specs.RightSet.{bit_named, right_bits};
 ghost use Rattle.pm_model.specs.Formed.{IsLive, IsUser};
 
 use crate::denials::denial;
@@ -24,7 +24,7 @@ pub fn acting(graph: &Graph, process: u32) -> Result<ElementId, Refusal>
 
 fn access_right(graph: &Graph, name: Name) -> Result<u8, Refusal>
     ensures value { result ≡ if_access name (bit_named graph.now.rights name) }
-    ensures below { IfOk result (λ bit. bit < 64) }
+    ensures below { IfOk result (λ bit. bit < right_bits) }
 {
     match graph.right(name) {
         None => Err(Refusal::UnknownName { name }),

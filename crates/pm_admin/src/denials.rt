@@ -1,5 +1,6 @@
 //! Why a right on an element is denied.
 ghost use Rattle.std.specs.Prelude.{◌≡◌, ◌<◌, ◌==◌, ◌&&◌};
+ghost use Rattle.pm_model.specs.RightSet.{right_bits};
 ghost use Rattle.pm_model.specs.State.{root};
 ghost use Rattle.pm_model.specs.Authority.{denial_in, forbidding_in, is_administrative, lacking_in, reason_of};
 ghost use Rattle.pm_model.specs.Formed.{IsLive};
@@ -45,7 +46,7 @@ fn reason(
     right: u8,
     element: ElementId,
 ) -> Option<Reason>
-    requires right { right < 64 }
+    requires right { right < right_bits }
     requires user { IsLive graph.now.elements user }
     requires element { IsLive graph.now.elements element }
     ensures { result ≡ reason_of (lacking_in graph.now user right element) (forbidding_in graph.now user process right element) }
@@ -70,7 +71,7 @@ pub(crate) fn denial(
     right: u8,
     element: ElementId,
 ) -> Option<Reason>
-    requires right { right < 64 }
+    requires right { right < right_bits }
     requires user { IsLive graph.now.elements user }
     requires element { IsLive graph.now.elements element }
     ensures { result ≡ denial_in graph.now user process right element }

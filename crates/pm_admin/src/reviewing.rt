@@ -1,12 +1,12 @@
 //! The ruling on a review.
-ghost use Rattle.std.specs.Prelude.{◌≡◌, IfOk, Some};
+ghost use Rattle.std.specs.Prelude.{◌≡◌, true, IfOk, Some, Err};
 ghost use Rattle.std.specs.List.{list_all};
 ghost use Rattle.pm_model.specs.Authority.{first_denied, required_by, subjects_of};
 ghost use Rattle.pm_model.specs.Formed.{Each, IsLive};
 ghost use Rattle.pm_model.specs.Resolve.{resolve_question};
 ghost use Rattle.pm_model.specs.Results.{first_of};
 ghost use Rattle.pm_model.specs.Reviews.{is_user_at, review_checks, review_ruling};
-ghost use Rattle.pm_admin.specs.Resolved.{Finds};
+ghost use Rattle.pm_admin.specs.Resolved.{Finds, is_survey};
 
 use crate::capabilities::{denied, denied_on};
 use crate::keeping::{TO_REVIEW, look_up_review, subject};
@@ -17,7 +17,8 @@ use pm_state::{Graph, is_user};
 
 // Only a list of users takes memory.
 fn resolve_question(graph: &Graph, question: &Question) -> Result<Review, ChangeError>
-    ensures { Finds (resolve_question graph.now question.now) result }
+    ensures value { Finds (resolve_question graph.now question.now) result }
+    ensures free { result ≡ Err ChangeError.Memory → is_survey question.now ≡ true }
 {
     match question {
         Question::Caps { user } => match look_up(graph, *user) {
@@ -108,6 +109,7 @@ pub fn authorise_review(
     requires { IsLive graph.now.elements user }
     ensures value { Finds (review_ruling graph.now user (Some process) question.now) result }
     ensures live { IfOk result (λ r. Each (IsLive graph.now.elements) (subjects_of r)) }
+    ensures free { result ≡ Err ChangeError.Memory → is_survey question.now ≡ true }
 {
     graph.formed();
     let review = match resolve_question(graph, question) {

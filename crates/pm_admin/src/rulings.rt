@@ -1,5 +1,5 @@
 //! The ruling on a command.
-ghost use Rattle.std.specs.Prelude.{◌≡◌, Err, IfOk, true};
+ghost use Rattle.std.specs.Prelude.{◌≡◌, Err, IfOk, IsErr, true};
 ghost use Rattle.pm_model.specs.Authority.{first_denied, required, ruling};
 ghost use Rattle.pm_model.specs.Formed.{IsLive, IsNamed, IsUser};
 ghost use Rattle.pm_admin.specs.Resolved.{Finds, IsFound, holds_lists};
@@ -62,7 +62,8 @@ pub fn permit(
     }
 }
 
-/// Whether the user and the process may give the command: what [`permit`] finds, without the change.
+/// Whether the user and the process may give the command: what [`permit`] finds, without the change. It takes memory
+/// where that does.
 pub fn authorise(
     graph: &Graph,
     user: ElementId,
@@ -70,7 +71,8 @@ pub fn authorise(
     command: &Command,
 ) -> Result<Ruling, Memory>
     requires { IsLive graph.now.elements user }
-    ensures { IfOk result (IsRuling (ruling graph.now user process command.now)) }
+    ensures value { IfOk result (IsRuling (ruling graph.now user process command.now)) }
+    ensures free { IsErr result → holds_lists command.now ≡ true }
 {
     let _change = match permit(graph, user, process, command) {
         Ok(change) => change,

@@ -1,13 +1,20 @@
 -- How many rights are judged: for one change, by the lists of kept reviews, and over a history; and counts up to the highest.
-use Rattle.std.proofs.Common.{◌≡◌, ◌<◌, ◌≤◌, ◌+◌, ◌-◌, ◌^◌, ℕ, Bool, true, false, ◌&&◌, ◌||◌, min, List, [], ◌∷◌, ◌++◌, length, filter, Option, Some, None, is_some, option_map, Result, Ok, Err, refl, sym, ◌∙◌, ap, ◌==◌, arith}
+use Rattle.std.proofs.Common.{◌≡◌, ◌<◌, ◌+◌, ◌^◌, ℕ, Bool, true, false, ◌&&◌, List, [], ◌∷◌, ◌++◌, length, filter, Option, None, is_some, Result, Ok, Err, refl, ◌∙◌, ap, ◌==◌, arith}
 use Rattle.std.specs.List.{list_any}
+use Rattle.std.proofs.lemmas.List.Sums.{sum_by-append, sum_by-cons}
 use Rattle.pm_model.specs.Answer.{after, answer}
 use Rattle.pm_model.specs.Containment.{contained}
 use Rattle.pm_model.specs.Effect.{effect}
+use Rattle.pm_model.specs.Events.{obliging, responders}
 use Rattle.pm_model.specs.History.{IsReplayed, Machine, replay, replay_from, state_of}
 use Rattle.pm_model.specs.KeptReviews.{KeptReview, is_kept_of}
+use Rattle.pm_model.specs.Responses.{acted, response_from}
 use Rattle.pm_model.specs.Reviews.{numbers_in, users_in}
 use Rattle.pm_model.specs.State.{Graph, State, opening}
+use Rattle.pm_model.specs.declared.actions.Action.{Action}
+use Rattle.pm_model.specs.declared.events.Event.{Event}
+use Rattle.pm_model.specs.declared.events.EventNames.{EventNames}
+use Rattle.pm_model.specs.declared.obligations.Obligation.{Obligation}
 use Rattle.pm_model.specs.declared.replies.Refusal.{Refusal}
 use Rattle.pm_model.specs.declared.requests.Change.{Change}
 use Rattle.pm_model.specs.declared.requests.Change.TheVariants.{Dissociate, Assign, Keep, DropReview, Prohibit}
@@ -15,7 +22,8 @@ use Rattle.pm_model.specs.declared.requests.Entry.{Entry}
 use Rattle.pm_model.specs.declared.reviews.ReviewOf.{ReviewOf}
 use Rattle.pm_model.specs.declared.reviews.ReviewOf.TheVariants.{Caps, Entries}
 use Rattle.pm_affect.specs.Affected.{is_in, region_of}
-use Rattle.pm_affect.specs.Counting.{capped, count_on, is_reviewed, judged_by, judged_entered, judged_for, judged_from, judged_in, judged_pairs}
+use Rattle.pm_affect.specs.Changes.{Turn, changes_acted, changes_on, changes_responded, changes_response_from, changes_responses_from}
+use Rattle.pm_affect.specs.Counting.{capped, count_on, is_reviewed, judged_acted, judged_by, judged_entered, judged_for, judged_from, judged_in, judged_over, judged_pairs, judged_responded, judged_response_from, judged_responses_from}
 use Rattle.pm_affect.specs.Example.{graph, hold}
 use Rattle.pm_affect.specs.Judged.{in_scope, judged, pairs_of}
 use Rattle.pm_affect.specs.Lists.{Listed, Lists, is_among, list_in, pairs_of_some, subjects}
@@ -66,9 +74,57 @@ pub grown-none : (M : Machine) (entry : Entry) → IsReplayed M → judged_by (s
     judged_in (M.history ++ entry ∷ []) ≡ judged_in M.history
 grown-none M entry r none = let on = judged-on M entry r in omega (arith, on, none)
 
+-- ---- sums over changes
+
+-- of what comes
+pub over-on : {A E : Type 0} (r : Result A E) (changes : A → List Turn) →
+    judged_over (changes_on r changes) ≡ count_on r (λ a. judged_over (changes a))
+over-on (Ok a) changes = refl
+over-on (Err why) changes = refl
+
+-- and of what comes of that
+pub over-both : {A B E F : Type 0} (r : Result A E) (s : A → Result B F) (changes : A → B → List Turn) →
+    judged_over (changes_on r (λ a. changes_on (s a) (changes a))) ≡ count_on r (λ a. count_on (s a) (λ b. judged_over (changes a b)))
+over-both (Ok a) s changes = over-on (s a) (changes a)
+over-both (Err why) s changes = refl
+
+-- of some and then of what comes
+over-more : {A E : Type 0} (turns : List Turn) (r : Result A E) (changes : A → List Turn) →
+    judged_over (turns ++ changes_on r changes) ≡ judged_over turns + count_on r (λ a. judged_over (changes a))
+over-more turns r changes =
+    sum_by-append (λ (t : Turn). judged_for t.0 t.1) turns (changes_on r changes) ∙ ap (λ n. judged_over turns + n) (over-on r changes)
+
+module _ (names : EventNames) (version : ℕ) where
+  pub response-more : (o : Obligation) (place number : ℕ) (G : Graph) (action : Action) (actions : List Action) →
+      judged_response_from names version o place number G (action ∷ actions)
+      ≡ judged_acted names version G o.author (record { obligation = place; action = number }) action
+      + count_on (acted names version G o.author (record { obligation = place; action = number }) action) (λ next.
+      judged_response_from names version o place (number + 1) next actions)
+  response-more o place number G action actions =
+      over-more (changes_acted names version G o.author (record { obligation = place; action = number }) action)
+      (acted names version G o.author (record { obligation = place; action = number }) action)
+      (λ next. changes_response_from names version o place (number + 1) next actions)
+
+  pub responses-more : (place : ℕ) (G : Graph) (o : Obligation) (obligations : List Obligation) →
+      judged_responses_from names version place G (o ∷ obligations)
+      ≡ judged_response_from names version o place 1 G o.response
+      + count_on (response_from names version o place 1 G o.response) (λ next. judged_responses_from names version (place + 1) next obligations)
+  responses-more place G o obligations =
+      over-more (changes_response_from names version o place 1 G o.response) (response_from names version o place 1 G o.response)
+      (λ next. changes_responses_from names version (place + 1) next obligations)
+
+-- for a change, and for the responses to its event
+pub entered-more : (S : State) (e : Option Event) (c : Change) →
+    judged_entered S e c
+    ≡ judged_for S.graph c + count_on (effect S.graph c) (λ G. judged_responded S e (responders S.graph (obliging S.graph c) e) G)
+entered-more S e c =
+    sum_by-cons (λ (t : Turn). judged_for t.0 t.1) (S.graph, c)
+    (changes_on (effect S.graph c) (λ G. changes_responded S e (responders S.graph (obliging S.graph c) e) G))
+    ∙ ap (λ n. judged_for S.graph c + n) (over-on (effect S.graph c) (λ G. changes_responded S e (responders S.graph (obliging S.graph c) e) G))
+
 -- an entry to which nothing responds
 pub judged_alone : (S : State) (c : Change) → judged_entered S None c ≡ judged_for S.graph c
-judged_alone S c = let none = count-none (effect S.graph c) in omega (arith, none)
+judged_alone S c = let none = count-none (effect S.graph c) in let all = entered-more S None c in omega (arith, none, all)
 
 -- ---- one change
 

@@ -1,14 +1,13 @@
 -- Lists of which no pair in scope lies in the region: where `touches` says no, and that they are right already.
 use Rattle.std.proofs.Common.{◌≡◌, ℕ, Bool, true, false, ◌==◌, ◌&&◌, ◌||◌, List, [], ◌∷◌, length, map, None, if◌then◌else◌, refl, sym, ap, ◌∙◌, eq-eqb, Contains}
 use Rattle.std.specs.List.{list_any}
-use Rattle.std.proofs.lemmas.Bool.{and_parts, eqb-true, false_from_ne_true, false≢true, or_left, or_right}
+use Rattle.std.proofs.lemmas.Bool.{and_parts, false_from_ne_true, false≢true, or_left, or_right}
 use Rattle.pm_model.specs.Decision.{applies_by, range_by}
-use Rattle.pm_model.specs.Formed.{Each}
 use Rattle.pm_laws.proofs.Items.{any-map, contains-first, contains-rest, each-at}
 use Rattle.pm_affect.specs.Affected.{is_in}
 use Rattle.pm_affect.specs.Judged.{in_scope}
 use Rattle.pm_affect.specs.Lists.{AreKept, IsInOrder, Listed, Lists, Rise, is_among, subjects}
-use Rattle.pm_affect.specs.Right.{AreCapsRight, AreEntriesRight, AreRight, IsRightOutside, caps_anew, entries_anew, is_one, rights_at}
+use Rattle.pm_affect.specs.Right.{AreCapsRight, AreEntriesRight, AreRight, IsRightOutside, caps_anew, entries_anew, is_one}
 use Rattle.pm_affect.specs.Rows.{has_near, is_near, is_near_row, is_nothing, is_wide}
 use Rattle.pm_affect.specs.declared.region.Region.{Region}
 use Rattle.pm_affect.specs.declared.region.Region.TheVariants.{Nothing, One, Under, Between, Barred}

@@ -1,5 +1,5 @@
 -- The region of a change: the pairs of a user and an element whose rights it can change. The project's own.
-use Rattle.std.specs.Prelude.{ℕ, Bool, false, ◌==◌, ◌&&◌, ◌||◌, Option, None, Some, slice_get}
+use Rattle.std.specs.Prelude.{ℕ, Bool, false, true, ◌==◌, ◌&&◌, ◌||◌, Option, None, Some, slice_get}
 use Rattle.pm_model.specs.State.{Graph}
 use Rattle.pm_model.specs.Containment.{contained}
 use Rattle.pm_model.specs.Decision.{range_by, applies_by}
@@ -16,6 +16,12 @@ is_in below (One x) u e = u == x || e == x
 is_in below (Under x) u e = below u x || below e x
 is_in below (Between ua at) u e = below u ua && below e at
 is_in below (Barred p) u e = applies_by below u None p.subject && range_by below p.mode p.inc p.exc e
+
+-- the change makes or lifts a prohibition
+abbrev pub is_of_prohibition : Change → Bool
+is_of_prohibition (Prohibit p) = true
+is_of_prohibition (Lift i) = true
+is_of_prohibition _ = false
 
 abbrev pub barred : Option Prohibition → Region
 barred (Some p) = Barred p

@@ -1,4 +1,5 @@
 pub mod Affected
+pub mod Changes
 pub mod Counting
 pub mod Example
 pub mod Judged

@@ -118,8 +118,9 @@ impl KeptLists {
         self.asked
     }
 
-    /// Adds to that number, up to 2^64 - 1.
-    pub fn charge(&mut self, n: u64)
+    /// Adds to that number, up to 2^64 - 1. Outside this crate [`update`](crate::update) alone adds to it, what its judge was
+    /// asked.
+    pub(crate) fn charge(&mut self, n: u64)
         ensures { self.new ≡ record self.old { asked = min (self.old.asked + n) (2 ^ 64 - 1) } }
     {
         self.asked = self.asked.saturating_add(n);

@@ -1,10 +1,10 @@
 //! The pairs of a user and an element whose rights a change can change.
 
-ghost use Rattle.std.specs.Prelude.{◌≡◌, ◌/◌, ℕ, None, false, if◌then◌else◌, IfOk};
+ghost use Rattle.std.specs.Prelude.{◌≡◌, ◌/◌, ℕ, None, false, if◌then◌else◌, IfOk, IsOk};
 ghost use Rattle.std.specs.Option.{option_copied};
 ghost use Rattle.pm_model.specs.Decision.{applies_by};
 ghost use Rattle.pm_decide.specs.Live.{IsLive};
-ghost use Rattle.pm_affect.specs.Affected.{is_in, region_by};
+ghost use Rattle.pm_affect.specs.Affected.{is_in, is_of_prohibition, region_by};
 ghost use Rattle.pm_affect.specs.Live.{RegionLive};
 ghost use Rattle.pm_affect.specs.declared.region.Row.{Row};
 ghost use Rattle.pm_affect.specs.Rows.{has_near, is_near, is_near_row, is_nothing, is_process, is_wide, row_by};
@@ -95,7 +95,8 @@ impl Region {
     /// The region of a change; `lifted` is the prohibition that it lifts, if any. It takes memory for the copy of a
     /// prohibition alone.
     pub fn of(change: &Change, lifted: Option<&Prohibition>) -> Result<Region, Memory>
-        ensures { IfOk result (λ region. region ≡ region_by change.now (option_copied lifted.entry)) }
+        ensures region { IfOk result (λ region. region ≡ region_by change.now (option_copied lifted.entry)) }
+        ensures free { is_of_prohibition change.now ≡ false → IsOk result }
     {
         Ok(match change {
             Change::Create { id, .. } => Region::One(*id),

@@ -204,7 +204,7 @@ fn judge_users<J: Judge, R: Reach>(
 
 /// Makes the list of each kept review what it answers, after a change of this region: `elements` and `users` are all live
 /// elements and users by rising number, the search and the judge go by the graph after the change, and outside the region the
-/// lists are right already. After Memory the lists may be partly repaired, and can only be dropped.
+/// lists are right already. On Memory the lists are dropped, since they may be partly repaired.
 ///
 /// It asks the judge once for each pair that lies in the region and in the scope of a kept review, and charges the lists for
 /// these; a list is written to, and copied if it is shared, where rights in it change. Where the region has no pair, or no
@@ -212,35 +212,35 @@ fn judge_users<J: Judge, R: Reach>(
 /// entries are kept; and once for each element, where a user whose capabilities are kept has only some in it. A question to
 /// the region is one of containment, or as many as the sets of a prohibition have elements.
 pub fn update<J: Judge, R: Reach>(
-    lists: &mut KeptLists,
+    mut lists: KeptLists,
     region: &Region,
     elements: &PlaceList,
     users: &UserList,
     reach: &mut R,
     judge: &mut J,
-) -> Result<(), Memory>
+) -> Result<KeptLists, Memory>
     requires region { RegionLive (R.relation reach.old) region.now }
     requires users { AreAsked (R.relation reach.old) (J.judgement judge.old) users.now }
     requires elements { AreAsked (R.relation reach.old) (J.judgement judge.old) elements.now }
     requires users_rise { Rise 0 users.now }
     requires elements_rise { Rise 0 elements.now }
     requires room { J.asked judge.old + length users.now * length elements.now < 2 ^ 64 }
-    requires lists { AreRight (R.relation reach.old).below region.now (J.judgement judge.old).rights elements.now users.now lists.old }
-    ensures caps { OnOk result (lists.new.caps ≡ map (caps_anew (J.judgement judge.old).rights elements.now) lists.old.caps) }
-    ensures entries { OnOk result (lists.new.entries ≡ map (entries_anew (J.judgement judge.old).rights users.now) lists.old.entries) }
-    ensures asked { OnOk result (J.asked judge.new ≡ J.asked judge.old + length (judged (is_in (R.relation reach.old).below region.now) (in_scope lists.old) users.now elements.now)) }
-    ensures charged { OnOk result (lists.new.asked ≡ min (lists.old.asked + length (judged (is_in (R.relation reach.old).below region.now) (in_scope lists.old) users.now elements.now)) (2 ^ 64 - 1)) }
+    requires lists { AreRight (R.relation reach.old).below region.now (J.judgement judge.old).rights elements.now users.now lists }
+    ensures caps { IfOk result (λ new. new.caps ≡ map (caps_anew (J.judgement judge.old).rights elements.now) lists.caps) }
+    ensures entries { IfOk result (λ new. new.entries ≡ map (entries_anew (J.judgement judge.old).rights users.now) lists.entries) }
+    ensures asked { OnOk result (J.asked judge.new ≡ J.asked judge.old + length (judged (is_in (R.relation reach.old).below region.now) (in_scope lists) users.now elements.now)) }
+    ensures charged { IfOk result (λ new. new.asked ≡ min (lists.asked + length (judged (is_in (R.relation reach.old).below region.now) (in_scope lists) users.now elements.now)) (2 ^ 64 - 1)) }
     ensures judgement { J.judgement judge.new ≡ J.judgement judge.old }
     ensures same { R.relation reach.new ≡ R.relation reach.old }
 {
     lists.kept();
     if region.is_nothing() {
         lists.charge(0);
-        return Ok(());
+        return Ok(lists);
     }
     if lists.is_empty() {
         lists.charge(0);
-        return Ok(());
+        return Ok(lists);
     }
     lists.clear(region)?;
     let places = lists.places()?;
@@ -255,7 +255,7 @@ pub fn update<J: Judge, R: Reach>(
         all: &places,
         near: &near_places,
     };
-    let count = judge_users(lists, region, users, &elements, &places, reach, judge)?;
+    let count = judge_users(&mut lists, region, users, &elements, &places, reach, judge)?;
     lists.charge(count);
-    Ok(())
+    Ok(lists)
 }

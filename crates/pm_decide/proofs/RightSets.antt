@@ -1,9 +1,9 @@
 -- Sets of rights as numbers: what a set has after an operation on bits, and that what it has makes it.
-use Rattle.std.proofs.Common.{◌≡◌, ◌==◌, ℕ, zero, suc, ◌+◌, ◌-◌, ◌*◌, ◌^◌, ◌<◌, ◌≤◌, min, max, Bool, true, false, not, ◌&&◌, ◌||◌, refl, sym, ap, ◌∙◌, arith, if◌then◌else◌, bit_or, bit_and, w64, inl, inr, ◌⊎◌}
+use Rattle.std.proofs.Common.{◌≡◌, ◌==◌, ℕ, zero, suc, ◌+◌, ◌-◌, ◌*◌, ◌^◌, ◌<◌, ◌≤◌, min, max, Bool, true, false, not, ◌&&◌, ◌||◌, refl, sym, ap, ◌∙◌, arith, if◌then◌else◌, bit_or, bit_and, inl, inr, ◌⊎◌}
 use Rattle.std.specs.Int.{bit_at, bit_not}
 use Rattle.std.proofs.lemmas.Nat.Bits.{bit_at_and, bit_at_or, bit_at_not, bit_at_ones, bit_at-zero, bit_at-lt, bit_at_cat_low, bit_at_cat_high, same_from_bits_below}
 use Rattle.std.proofs.lemmas.Bool.{cases_lt}
-use Rattle.pm_model.specs.RightSet.{has_right, from_bits}
+use Rattle.pm_model.specs.RightSet.{has_right, from_bits, right_bits, right_width}
 use Rattle.pm_decide.specs.Sets.{IsSetOf}
 
 -- ---- one bit
@@ -43,14 +43,14 @@ has-or a b r = rw bit_at_or (either (bit_at a r) (bit_at b r) (bit_at-lt a r) (b
 pub has-and : (a b r : ℕ) → has_right (bit_and a b) r ≡ (has_right a r && has_right b r)
 has-and a b r = rw bit_at_and (both (bit_at a r) (bit_at b r) (bit_at-lt a r) (bit_at-lt b r))
 
-has-not : (a r : ℕ) → a < 2 ^ 64 → r < 64 → has_right (bit_not w64 a) r ≡ not (has_right a r)
-has-not a r small h = rw (bit_at_not w64 a r small h) (other (bit_at a r) (bit_at-lt a r))
+has-not : (a r : ℕ) → a < 2 ^ right_bits → r < right_bits → has_right (bit_not right_width a) r ≡ not (has_right a r)
+has-not a r small h = rw (bit_at_not right_width a r small h) (other (bit_at a r) (bit_at-lt a r))
 
 has-none : (r : ℕ) → has_right 0 r ≡ false
 has-none r = rw bit_at-zero refl
 
-has-all : (r : ℕ) → r < 64 → has_right (2 ^ 64 - 1) r ≡ true
-has-all r h = rw (bit_at_ones 64 r h) refl
+has-all : (r : ℕ) → r < right_bits → has_right (2 ^ right_bits - 1) r ≡ true
+has-all r h = rw (bit_at_ones right_bits r h) refl
 
 -- ---- a set made by its test
 
@@ -88,9 +88,9 @@ from_bits-has passes (suc n) r h = rw from_bits-suc (by_place (cases_lt r n) (fr
       let place : r - n ≡ 0 = omega arith in
       rw (bit_at_cat_high (bit_of (passes n)) n (from_bits passes n) r (from_bits-small passes n) from, place, last) (bit_at-bit (passes n))
 
-pub set-from_bits : (passes : ℕ → Bool) (rights : ℕ) → IsSetOf passes rights → rights < 2 ^ 64 → rights ≡ from_bits passes 64
-set-from_bits passes rights is small = same_from_bits_below 64 rights (from_bits passes 64) small (from_bits-small passes 64)
-    (λ r h. one_test _ _ (bit_at-lt rights r) (bit_at-lt (from_bits passes 64) r) (is r h ∙ sym (from_bits-has passes 64 r h)))
+pub set-from_bits : (passes : ℕ → Bool) (rights : ℕ) → IsSetOf passes rights → rights < 2 ^ right_bits → rights ≡ from_bits passes right_bits
+set-from_bits passes rights is small = same_from_bits_below right_bits rights (from_bits passes right_bits) small (from_bits-small passes right_bits)
+    (λ r h. one_test _ _ (bit_at-lt rights r) (bit_at-lt (from_bits passes right_bits) r) (is r h ∙ sym (from_bits-has passes right_bits r h)))
 
 pub set-same : (rights : ℕ) (passes same : ℕ → Bool) → IsSetOf passes rights → ((r : ℕ) → passes r ≡ same r) → IsSetOf same rights
 set-same rights passes same is alike = λ r h. is r h ∙ alike r
@@ -98,21 +98,21 @@ set-same rights passes same is alike = λ r h. is r h ∙ alike r
 pub set-none : (passes : ℕ → Bool) → ((r : ℕ) → false ≡ passes r) → IsSetOf passes 0
 set-none passes none = λ r h. has-none r ∙ none r
 
-pub set-all : (passes : ℕ → Bool) → ((r : ℕ) → true ≡ passes r) → IsSetOf passes (2 ^ 64 - 1)
+pub set-all : (passes : ℕ → Bool) → ((r : ℕ) → true ≡ passes r) → IsSetOf passes (2 ^ right_bits - 1)
 set-all passes all = λ r h. has-all r h ∙ all r
 
 pub unasked : (within met : Bool) → false ≡ within → true ≡ (not within || met)
 unasked within met out = rw (← out) refl
 
-pub set_without : (held denied : ℕ) → denied < 2 ^ 64 →
-    IsSetOf (λ r. has_right held r && not (has_right denied r)) (bit_and held (bit_not w64 denied))
-set_without held denied small = λ r h. has-and held (bit_not w64 denied) r ∙ rw (has-not denied r small h) refl
+pub set_without : (held denied : ℕ) → denied < 2 ^ right_bits →
+    IsSetOf (λ r. has_right held r && not (has_right denied r)) (bit_and held (bit_not right_width denied))
+set_without held denied small = λ r h. has-and held (bit_not right_width denied) r ∙ rw (has-not denied r small h) refl
 
 -- ---- sets put together one by one
 
 -- the set so far, or the test of what is left, is the whole
 abbrev pub IsJoining : ℕ → (ℕ → Bool) → (ℕ → Bool) → Type 0
-IsJoining so_far left whole = (r : ℕ) → r < 64 → (has_right so_far r || left r) ≡ whole r
+IsJoining so_far left whole = (r : ℕ) → r < right_bits → (has_right so_far r || left r) ≡ whole r
 
 or_step : (so_far here later left whole next : Bool) → (so_far || left) ≡ whole → left ≡ (here || later) → next ≡ (so_far || here) →
     (next || later) ≡ whole
@@ -140,14 +140,14 @@ joining-done so_far left whole joining none = λ r h. sym (last (has_right so_fa
 
 -- the set so far, and the test of what is left, is the whole
 abbrev pub IsMeeting : ℕ → (ℕ → Bool) → (ℕ → Bool) → Type 0
-IsMeeting so_far left whole = (r : ℕ) → r < 64 → (has_right so_far r && left r) ≡ whole r
+IsMeeting so_far left whole = (r : ℕ) → r < right_bits → (has_right so_far r && left r) ≡ whole r
 
 and_step : (so_far here later left whole next : Bool) → (so_far && left) ≡ whole → left ≡ (here && later) → next ≡ (so_far && here) →
     (next && later) ≡ whole
 and_step true here later left whole next before split is = rw is (sym split ∙ before)
 and_step false here later left whole next before split is = rw is before
 
-pub meeting-begun : (whole : ℕ → Bool) → IsMeeting (2 ^ 64 - 1) whole whole
+pub meeting-begun : (whole : ℕ → Bool) → IsMeeting (2 ^ right_bits - 1) whole whole
 meeting-begun whole = λ r h. rw (has-all r h) refl
 
 pub meeting-more : (so_far more : ℕ) (here later left whole : ℕ → Bool) → IsMeeting so_far left whole → IsSetOf here more →
@@ -166,14 +166,14 @@ met_none so_far left whole meeting none = λ r h.
 
 -- ---- what is held and not denied
 
-pub held-none : (held : ℕ) (has bars : ℕ → Bool) → IsSetOf has held → held ≡ 0 → 0 ≡ from_bits (λ r. has r && not (bars r)) 64
+pub held-none : (held : ℕ) (has bars : ℕ → Bool) → IsSetOf has held → held ≡ 0 → 0 ≡ from_bits (λ r. has r && not (bars r)) right_bits
 held-none held has bars is none =
     set-from_bits (λ r. has r && not (bars r)) 0
     (λ r h. has-none r ∙ and_none (has r) (not (bars r)) (has r && not (bars r)) refl (sym (is r h) ∙ ap (λ x. has_right x r) none ∙ has-none r))
     (omega arith)
 
 pub held-without : (held denied rights : ℕ) (has bars : ℕ → Bool) → IsSetOf has held → IsSetOf bars denied →
-    IsSetOf (λ r. has_right held r && not (has_right denied r)) rights → rights < 2 ^ 64 →
-    rights ≡ from_bits (λ r. has r && not (bars r)) 64
+    IsSetOf (λ r. has_right held r && not (has_right denied r)) rights → rights < 2 ^ right_bits →
+    rights ≡ from_bits (λ r. has r && not (bars r)) right_bits
 held-without held denied rights has bars is_held is_denied is small =
     set-from_bits (λ r. has r && not (bars r)) rights (λ r h. is r h ∙ rw (is_held r h, is_denied r h) refl) small

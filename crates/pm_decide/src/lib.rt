@@ -4,6 +4,7 @@
 
 ghost use Rattle.std.specs.Prelude.{◌≡◌, ◌<◌};
 ghost use Rattle.pm_model.specs.Decision.{is_met, lacking, privilege, associations_of};
+ghost use Rattle.pm_model.specs.RightSet.{right_bits};
 ghost use Rattle.pm_decide.specs.Live.{IsLive, EndsLive, IsAsked, IsAskedIn, GranteeLive, BarsLive};
 ghost use Rattle.pm_decide.specs.Gives.{gives, some_gives};
 ghost use Rattle.pm_decide.specs.Hits.{AreHolders, in_word, some_of};
@@ -30,7 +31,7 @@ fn gives<R: Reach>(
     element: ElementId,
     class: ElementId,
 ) -> bool
-    requires right { right < 64 }
+    requires right { right < right_bits }
     requires element { IsLive (R.relation reach.old) element }
     requires class { IsLive (R.relation reach.old) class }
     requires at { IsLive (R.relation reach.old) grant.at }
@@ -48,7 +49,7 @@ fn some_gives<R: Reach>(
     element: ElementId,
     class: ElementId,
 ) -> bool
-    requires right { right < 64 }
+    requires right { right < right_bits }
     requires element { IsLive (R.relation reach.old) element }
     requires class { IsLive (R.relation reach.old) class }
     requires grantee { GranteeLive (R.relation reach.old) grantee.now }
@@ -74,7 +75,7 @@ fn is_given_in<R: Reach, G: Grants>(
     element: ElementId,
     class: ElementId,
 ) -> bool
-    requires right { right < 64 }
+    requires right { right < right_bits }
     requires element { IsLive (R.relation reach.old) element }
     requires class { IsLive (R.relation reach.old) class }
     requires grants { EndsLive (R.relation reach.old) (G.grantees grants.now) }
@@ -105,7 +106,7 @@ fn is_met<R: Reach, G: Grants>(
     element: ElementId,
     class: ElementId,
 ) -> bool
-    requires right { right < 64 }
+    requires right { right < right_bits }
     requires asked { IsAskedIn (R.relation reach.old) (G.grantees grants.now) user element class }
     ensures answer { result ≡ is_met (R.relation reach.old).below (associations_of (G.grantees grants.now)) user right element class }
     ensures same { R.relation reach.new ≡ R.relation reach.old }
@@ -128,7 +129,7 @@ fn lacking<R: Reach, G: Grants>(
     right: u8,
     element: ElementId,
 ) -> Option<ElementId>
-    requires right { right < 64 }
+    requires right { right < right_bits }
     requires asked { IsAsked (R.relation reach.old) (G.grantees grants.now) classes.now user element }
     ensures answer { result ≡ lacking (R.relation reach.old).below (associations_of (G.grantees grants.now)) classes.now user right element }
     ensures same { R.relation reach.new ≡ R.relation reach.old }
@@ -160,7 +161,7 @@ pub fn privilege<R: Reach, G: Grants>(
     right: u8,
     element: ElementId,
 ) -> bool
-    requires right { right < 64 }
+    requires right { right < right_bits }
     requires asked { IsAsked (R.relation reach.old) (G.grantees grants.now) classes.now user element }
     ensures answer { result ≡ privilege (R.relation reach.old).below (associations_of (G.grantees grants.now)) classes.now user right element }
     ensures same { R.relation reach.new ≡ R.relation reach.old }
@@ -184,7 +185,7 @@ pub fn decide<R: Reach, G: Grants, B: Bars>(
     right: u8,
     element: ElementId,
 ) -> Verdict
-    requires right { right < 64 }
+    requires right { right < right_bits }
     requires asked { IsAsked (R.relation reach.old) (G.grantees grants.now) classes.now user element }
     requires bars { BarsLive (R.relation reach.old) (B.prohibitions bars.now) }
     ensures answer { result ≡ decision (R.relation reach.old).below (associations_of (G.grantees grants.now)) (B.prohibitions bars.now) classes.now user process right element }

@@ -3,6 +3,7 @@
 ghost use Rattle.std.specs.Prelude.{◌≡◌, ◌<◌, not, length, IfSome};
 ghost use Rattle.std.specs.List.{list_any, list_all};
 ghost use Rattle.pm_model.specs.Decision.{range_by, applies_by, forbids, first_applying};
+ghost use Rattle.pm_model.specs.RightSet.{right_bits};
 ghost use Rattle.pm_decide.specs.Live.{IsLive, AllLive, NamesLive, BarsLive};
 
 use pm_model::{Bars, ElementId, Mode, PlaceList, Prohibition, Reach, Subject};
@@ -101,7 +102,7 @@ fn forbids<R: Reach>(
 ) -> bool
     requires bar { NamesLive (R.relation reach.old) bar.now }
     requires user { IsLive (R.relation reach.old) user }
-    requires right { right < 64 }
+    requires right { right < right_bits }
     requires element { IsLive (R.relation reach.old) element }
     ensures answer { result ≡ forbids (R.relation reach.old).below user process right element bar.now }
     ensures same { R.relation reach.new ≡ R.relation reach.old }
@@ -120,7 +121,7 @@ fn first_among<R: Reach>(
 ) -> Option<usize>
     requires bars { BarsLive (R.relation reach.old) bars.now }
     requires user { IsLive (R.relation reach.old) user }
-    requires right { right < 64 }
+    requires right { right < right_bits }
     requires element { IsLive (R.relation reach.old) element }
     ensures answer { result ≡ first_applying (R.relation reach.old).below bars.now user process right element }
     ensures within { IfSome result (λ i. i < length bars.now) }
@@ -152,7 +153,7 @@ pub fn first_applying<R: Reach, B: Bars>(
 ) -> Option<u32>
     requires bars { BarsLive (R.relation reach.old) (B.prohibitions bars.now) }
     requires user { IsLive (R.relation reach.old) user }
-    requires right { right < 64 }
+    requires right { right < right_bits }
     requires element { IsLive (R.relation reach.old) element }
     ensures answer { result ≡ first_applying (R.relation reach.old).below (B.prohibitions bars.now) user process right element }
     ensures same { R.relation reach.new ≡ R.relation reach.old }

@@ -3,7 +3,7 @@
 ghost use Rattle.std.specs.Prelude.{◌≡◌, ◌<◌, ◌^◌, not, ◌&&◌, ◌||◌, None, bit_and};
 ghost use Rattle.std.specs.List.{list_any};
 ghost use Rattle.pm_model.specs.Decision.{is_met, privilege, forbids, associations_of, rights_on};
-ghost use Rattle.pm_model.specs.RightSet.{has_right};
+ghost use Rattle.pm_model.specs.RightSet.{has_right, right_bits};
 ghost use Rattle.pm_decide.specs.Gives.{gives, some_gives};
 ghost use Rattle.pm_decide.specs.Hits.{AreHolders, in_word, some_of};
 ghost use Rattle.pm_decide.specs.Live.{IsLive, EndsLive, IsAsked, IsAskedIn, GranteeLive, NamesLive, BarsLive};
@@ -11,11 +11,13 @@ ghost use Rattle.pm_decide.specs.Sets.{IsSetOf};
 
 use crate::prohibitions::{applies, in_range};
 use crate::words::{holders_above, lowest, without_bit};
-use pm_model::{Bars, ClassList, ElementId, Grant, Grantee, Grants, Prohibition, Reach, Rights};
+use pm_model::{
+    Bars, ClassList, ElementId, Grant, Grantee, Grants, Prohibition, Reach, RightWord, Rights,
+};
 
 const NO_RIGHTS: Rights = Rights(0);
 
-const ALL_RIGHTS: Rights = Rights(u64::MAX);
+const ALL_RIGHTS: Rights = Rights(RightWord::MAX);
 
 /// The rights that are in both sets.
 fn common(a: Rights, b: Rights) -> Rights
@@ -27,7 +29,7 @@ fn common(a: Rights, b: Rights) -> Rights
 /// The rights of the first set that the second doesn't have.
 #[tactic(auto, using(crate::proofs::RightSets::set_without))]
 fn without(held: Rights, denied: Rights) -> Rights
-    ensures small { result < 2 ^ 64 }
+    ensures small { result < 2 ^ right_bits }
     ensures answer { IsSetOf (λ r. has_right held r && not (has_right denied r)) result }
 {
     Rights(held.0 & !denied.0)

@@ -5,6 +5,7 @@ ghost use Rattle.std.specs.Option.{option_and_then};
 ghost use Rattle.std.specs.List.{list_any, remove};
 ghost use Rattle.pm_model.specs.Results.{first_of};
 ghost use Rattle.pm_model.specs.Decision.{first_applying};
+ghost use Rattle.pm_model.specs.RightSet.{right_bits};
 ghost use Rattle.pm_model.specs.Effect.{IsCause};
 ghost use Rattle.pm_model.specs.Prohibitions.{max_prohibitions, is_called, place_called, prohibit_checks, without_processes, names_element};
 ghost use Rattle.pm_pages.specs.Paged.{OwnWhere};
@@ -158,7 +159,7 @@ impl Deny {
     ) -> Option<u32>
         requires bars { BarsLive (R.relation reach.old) self.now.items }
         requires user { IsLive (R.relation reach.old) user }
-        requires right { right < 64 }
+        requires right { right < right_bits }
         requires element { IsLive (R.relation reach.old) element }
         ensures answer { result ≡ first_applying (R.relation reach.old).below self.now.items user process right element }
         ensures same { R.relation reach.new ≡ R.relation reach.old }

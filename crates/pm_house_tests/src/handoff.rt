@@ -3,6 +3,7 @@
 ghost use Rattle.std.specs.Prelude.{◌≡◌};
 
 use pm_handoff::{Ends, Giver, Handoff, Numbered, Refused, Taker};
+use std::process::Abort;
 use std::sync::Wait;
 use std::test::Fail;
 use std::thread;
@@ -20,6 +21,33 @@ impl Numbered for Item {
     }
 }
 
+/// Gives the item with this number, which is answered so.
+fn gives<R: Wait + Abort>(
+    rt: &R,
+    queue: &Handoff<Item>,
+    giver: &mut Giver<Item>,
+    number: u64,
+    answer: Result<(), Refused<Item>>,
+)
+    requires { giver.old.place ≡ queue.now.place }
+    ensures { giver.new.place ≡ giver.old.place }
+{
+    assert_eq!(rt; queue.give(rt, giver, Item(number)), answer);
+}
+
+/// Takes an item, or none.
+fn takes<R: Wait + Abort>(
+    rt: &R,
+    queue: &Handoff<Item>,
+    taker: &mut Taker<Item>,
+    answer: Option<Item>,
+)
+    requires { taker.old.place ≡ queue.now.place }
+    ensures { taker.new.place ≡ taker.old.place }
+{
+    assert_eq!(rt; queue.take(rt, taker), answer);
+}
+
 #[test]
 fn two_fit_and_come_in_order(rt: HostRuntime) -> Result<(), Fail> {
     let ends = Handoff::new(rt.alloc(), 2)?;
@@ -28,19 +56,13 @@ fn two_fit_and_come_in_order(rt: HostRuntime) -> Result<(), Fail> {
         mut giver,
         mut taker,
     } = ends;
-    let given = queue.give(&rt, &mut giver, Item(7));
-    assert_eq!(rt; given, Ok(()));
-    let given = queue.give(&rt, &mut giver, Item(8));
-    assert_eq!(rt; given, Ok(()));
-    let given = queue.give(&rt, &mut giver, Item(9));
-    assert_eq!(rt; given, Err(Refused::Full(Item(9))));
+    gives(&rt, &queue, &mut giver, 7, Ok(()));
+    gives(&rt, &queue, &mut giver, 8, Ok(()));
+    gives(&rt, &queue, &mut giver, 9, Err(Refused::Full(Item(9))));
     queue.compare(&mut giver, &mut taker);
-    let taken = queue.take(&rt, &mut taker);
-    assert_eq!(rt; taken, Some(Item(7)));
-    let taken = queue.take(&rt, &mut taker);
-    assert_eq!(rt; taken, Some(Item(8)));
-    let taken = queue.take(&rt, &mut taker);
-    assert_eq!(rt; taken, None);
+    takes(&rt, &queue, &mut taker, Some(Item(7)));
+    takes(&rt, &queue, &mut taker, Some(Item(8)));
+    takes(&rt, &queue, &mut taker, None);
     Ok(())
 }
 

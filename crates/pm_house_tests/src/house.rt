@@ -5,7 +5,7 @@ ghost use Rattle.std.specs.Prelude.{◌≡◌, ◌<◌, ◌≤◌, [], IfSome};
 mod asking;
 
 use asking::{
-    Ask, Told, fault_at, letter, look, never_falls, policy, request, start_processes, submit,
+    Ask, Told, fault_at, is_seen, is_told, letter, never_falls, policy, request, start_processes,
 };
 use crossbeam_utils::rule::Protocol;
 use pm_house::{Home, House, Seat, Seats, house_room};
@@ -51,7 +51,7 @@ fn first_requests<H: Home, R: Threads + Wait + Abort + Alloc<A = Global> + Sync>
     let mut two = seats.seat(1).expect(rt, "seat 1");
     ask_for_a_class(rt, &house, &mut one);
     let inside = request(rt, Ask::Make(Kind::Ua, "x", "a"));
-    assert_eq!(rt; submit(rt, &house, &mut two, &inside), (Told::Done, 2));
+    is_told(rt, &house, &mut two, &inside, Told::Done, 2);
 }
 
 fn ask_for_a_class<H: Home, R: Threads + Wait + Abort + Alloc<A = Global> + Sync>(
@@ -61,11 +61,11 @@ fn ask_for_a_class<H: Home, R: Threads + Wait + Abort + Alloc<A = Global> + Sync
 ) {
     let version = request(rt, Ask::Version);
     let class = request(rt, Ask::Class("a"));
-    assert_eq!(rt; look(rt, seat, &class), None);
-    assert_eq!(rt; look(rt, seat, &version), Some((Told::Done, 0)));
-    assert_eq!(rt; submit(rt, house, seat, &version), (Told::Done, 0));
-    assert_eq!(rt; submit(rt, house, seat, &class), (Told::Done, 1));
-    assert_eq!(rt; look(rt, seat, &version), Some((Told::Done, 1)));
+    is_seen(rt, seat, &class, None);
+    is_seen(rt, seat, &version, Some((Told::Done, 0)));
+    is_told(rt, house, seat, &version, Told::Done, 0);
+    is_told(rt, house, seat, &class, Told::Done, 1);
+    is_seen(rt, seat, &version, Some((Told::Done, 1)));
 }
 
 #[test]
@@ -87,11 +87,19 @@ fn policy_of_a_stranger<H: Home, R: Threads + Wait + Abort + Alloc<A = Global> +
     let mut one = seats.seat(0).expect(rt, "seat 0");
     let mut two = seats.seat(1).expect(rt, "seat 1");
     assert!(rt; seats.seat(0).is_none() && seats.seat(2).is_none());
-    for n in 0..12 {
-        let told = submit(rt, &house, &mut one, &request(rt, policy(n)));
-        assert_eq!(rt; told, (Told::Done, u64::from(n) + 1));
-    }
+    make_policy(rt, &house, &mut one);
     read_as_denied(rt, &house, &mut one, &mut two);
+}
+
+fn make_policy<H: Home, R: Threads + Wait + Abort + Alloc<A = Global> + Sync>(
+    rt: &R,
+    house: &House<Edition, NoKeep, H>,
+    seat: &mut Seat<Edition, H>,
+) {
+    for n in 0..12 {
+        let next = request(rt, policy(n));
+        is_told(rt, house, seat, &next, Told::Done, u64::from(n) + 1);
+    }
 }
 
 // The one has made the policy and taken from `ann` what she could read: so the other is told.
@@ -103,10 +111,10 @@ fn read_as_denied<H: Home, R: Threads + Wait + Abort + Alloc<A = Global> + Sync>
 ) {
     let mut read = request(rt, Ask::Read(1, "memo"));
     read.after = Some(12);
-    assert_eq!(rt; look(rt, two, &read), Some((Told::Lacks(3), 12)));
-    assert_eq!(rt; one.version(), 12);
+    is_seen(rt, two, &read, Some((Told::Lacks(3), 12)));
+    assert!(rt; one.version() == 12);
     house.meet(rt, one, two);
-    assert_eq!(rt; submit(rt, house, two, &read), (Told::Lacks(3), 12));
+    is_told(rt, house, two, &read, Told::Lacks(3), 12);
 }
 
 #[test]
@@ -132,13 +140,8 @@ fn keeper_fails<H: Home, R: Threads + Wait + Abort + Alloc<A = Global> + Sync>(
         if entries + 1 == failing {
             fault_at(rt, &house, &mut seat, entries);
         }
-        let told = submit(
-            rt,
-            &house,
-            &mut seat,
-            &request(rt, Ask::Class(letter(entries))),
-        );
-        assert_eq!(rt; told, (Told::Done, entries + 1));
+        let class = request(rt, Ask::Class(letter(entries)));
+        is_told(rt, &house, &mut seat, &class, Told::Done, entries + 1);
     }
 }
 
@@ -195,6 +198,22 @@ fn calling<H: Home>(seat: Seat<Edition, H>, starts: u64, looks: u64) -> Caller<H
     }
 }
 
+// Both act, the one by asking the desk so many times and the other so, which also looks so often.
+fn act_both<H: Home + Send + Sync, R: Threads + Wait + Abort + Alloc<A = Global> + Sync>(
+    rt: &R,
+    house: &House<Edition, NoKeep, H>,
+    one: Seat<Edition, H>,
+    two: Seat<Edition, H>,
+    starts: (u64, u64),
+    looks: u64,
+) -> (Seat<Edition, H>, Seat<Edition, H>) {
+    let mut callers = [calling(one, starts.0, 0), calling(two, starts.1, looks)];
+    all_act(rt, house, &mut callers);
+    let [one, two] = callers;
+    assert!(rt; one.fine && two.fine);
+    (one.seat, two.seat)
+}
+
 // One asks the desk while the other looks; then both ask, and meet.
 fn beside_one_another<H: Home + Send + Sync, R: Threads + Wait + Abort + Alloc<A = Global> + Sync>(
     rt: &R,
@@ -202,16 +221,10 @@ fn beside_one_another<H: Home + Send + Sync, R: Threads + Wait + Abort + Alloc<A
     one: Seat<Edition, H>,
     two: Seat<Edition, H>,
 ) {
-    let mut callers = [calling(one, 30, 0), calling(two, 0, 200)];
-    all_act(rt, house, &mut callers);
-    let [one, mut two] = callers;
-    assert!(rt; one.fine && two.fine);
-    assert_eq!(rt; two.seat.version(), 30);
-    let mut callers = [calling(one.seat, 10, 0), calling(two.seat, 10, 10)];
-    all_act(rt, house, &mut callers);
-    let [one, two] = callers;
-    assert!(rt; one.fine && two.fine);
-    meet_at_last(rt, house, one.seat, two.seat);
+    let (one, mut two) = act_both(rt, house, one, two, (30, 0), 200);
+    assert!(rt; two.version() == 30);
+    let (one, two) = act_both(rt, house, one, two, (10, 10), 10);
+    meet_at_last(rt, house, one, two);
 }
 
 fn meet_at_last<H: Home, R: Wait + Abort>(
@@ -221,8 +234,8 @@ fn meet_at_last<H: Home, R: Wait + Abort>(
     mut two: Seat<Edition, H>,
 ) {
     house.meet(rt, &mut one, &mut two);
-    assert_eq!(rt; (one.shown().version(), two.shown().version()), (50, 50));
-    assert_eq!(rt; (one.made(), two.made()), (40, 10));
+    let versions = (one.shown().version(), two.shown().version());
+    assert_eq!(rt; (versions, one.made(), two.made()), ((50, 50), 40, 10));
 }
 
 fn two_callers<H: Home + Send + Sync, R: Threads + Wait + Abort + Alloc<A = Global> + Sync>(

@@ -8,7 +8,6 @@ use std::alloc::Global;
 use std::marker::Brand;
 use std::process::Abort;
 use std::sync::{Arc, Wait};
-use std::test::Fail;
 use std::thread;
 use std::thread::Threads;
 
@@ -39,33 +38,49 @@ fn publish_length<H: Naming, R: Wait>(
     Ok(publisher.publish(rt, next))
 }
 
-fn look_and_be_told<H: Naming, R: Wait + Abort>(
+/// Who publishes the length 0, and two viewers.
+fn two_viewers<H: Naming, R: Abort>(
     rt: &R,
     alloc: Global,
     opened: Opened,
-) -> Result<(), Fail>
+) -> (Publisher<Length, H>, Viewer<Length, H>, Viewer<Length, H>)
+    requires { opened ≡ H.book }
+    ensures { result.0.0 ≡ 0 }
+{
+    let first = Arc::new(alloc, Length(0)).expect(rt, "memory");
+    let Room {
+        publisher,
+        mut viewers,
+    } = publish_room::<Length, H>(alloc, opened, first, 2).expect(rt, "memory");
+    let one = viewers.pop().expect(rt, "a viewer");
+    let two = viewers.pop().expect(rt, "a second viewer");
+    (publisher, one, two)
+}
+
+fn show<H: Naming>(
+    rt: &impl Abort,
+    one: &Viewer<Length, H>,
+    two: &Viewer<Length, H>,
+    lengths: (u64, u64),
+) {
+    assert_eq!(rt; (one.shown().0, two.shown().0), lengths);
+}
+
+fn look_and_be_told<H: Naming, R: Wait + Abort>(rt: &R, alloc: Global, opened: Opened)
     requires { opened ≡ H.book }
 {
-    let first = Arc::new(alloc, Length(0))?;
-    let room = publish_room::<Length, H>(alloc, opened, first, 2)?;
-    let Room {
-        mut publisher,
-        mut viewers,
-    } = room;
-    let mut one = viewers.pop().expect(rt, "a viewer");
-    let mut two = viewers.pop().expect(rt, "a second viewer");
-    let older = publish_length(rt, alloc, &mut publisher, 3)?;
+    let (mut publisher, mut one, mut two) = two_viewers::<H, R>(rt, alloc, opened);
+    let older = publish_length(rt, alloc, &mut publisher, 3).expect(rt, "memory");
     assert!(rt; one.look());
-    assert_eq!(rt; (one.shown().0, two.shown().0), (3, 0));
-    let newer = publish_length(rt, alloc, &mut publisher, 5)?;
+    show(rt, &one, &two, (3, 0));
+    let newer = publish_length(rt, alloc, &mut publisher, 5).expect(rt, "memory");
     assert!(rt; two.told(newer) && !two.told(older));
     assert!(rt; one.look() && two.look());
-    assert_eq!(rt; (one.shown().0, two.shown().0), (5, 5));
-    Ok(())
+    show(rt, &one, &two, (5, 5));
 }
 
 #[test]
-fn a_viewer_looks_and_is_told(rt: HostRuntime) -> Result<(), Fail> {
+fn a_viewer_looks_and_is_told(rt: HostRuntime) {
     look_and_be_told::<Brand, _>(&rt, rt.alloc(), Opened::new())
 }
 
@@ -102,17 +117,10 @@ fn look_beside_a_publisher<H: Naming + Send + Sync, R: Threads + Wait + Abort + 
     rt: &R,
     alloc: Global,
     opened: Opened,
-) -> Result<(), Fail>
+)
     requires { opened ≡ H.book }
 {
-    let first = Arc::new(alloc, Length(0))?;
-    let room = publish_room::<Length, H>(alloc, opened, first, 2)?;
-    let Room {
-        publisher,
-        mut viewers,
-    } = room;
-    let one = viewers.pop().expect(rt, "a viewer");
-    let two = viewers.pop().expect(rt, "a second viewer");
+    let (publisher, one, two) = two_viewers::<H, R>(rt, alloc, opened);
     let looks = move || thread::join(
         rt,
         move || never_falls(one, 200),
@@ -125,12 +133,10 @@ fn look_beside_a_publisher<H: Naming + Send + Sync, R: Threads + Wait + Abort + 
         { publish_up_to(rt, alloc, publisher, 100) },
         looks,
     );
-    assert!(rt; published);
-    assert_eq!(rt; stay, (true, true));
-    Ok(())
+    assert!(rt; published && stay == (true, true));
 }
 
 #[test]
-fn versions_never_fall_beside_a_publisher(rt: HostRuntime) -> Result<(), Fail> {
+fn versions_never_fall_beside_a_publisher(rt: HostRuntime) {
     look_beside_a_publisher::<Brand, _>(&rt, rt.alloc(), Opened::new())
 }

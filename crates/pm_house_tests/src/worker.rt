@@ -58,8 +58,39 @@ const ASKED: &[u8] = b"{\"cmd\":\"version\"}\n";
 
 const TOLD: &[u8] = b"{\"ok\":\"done\",\"v\":0}\n";
 
-// A line is read, its reply written, and the end read: which of the three calls can do nothing and which fail, and how the
-// turns end then, with what was taken and what is still to be sent.
+// Which calls can do nothing and which fail, how the turns end then, and what was taken and what is still to be sent.
+type Fate = (
+    &'static [u64],
+    &'static [u64],
+    &'static [Turn],
+    &'static [u8],
+    &'static [u8],
+);
+
+// A line is read, its reply written, and the end read.
+static FATES: &[Fate] = &[
+    (&[], &[], &[Turn::Ended], TOLD, b""),
+    (&[], &[1], &[Turn::LinkFault], b"", b""),
+    (&[], &[2], &[Turn::LinkFault], b"", TOLD),
+    (&[], &[3], &[Turn::LinkFault], TOLD, b""),
+    (&[1], &[], &[Turn::Idle, Turn::Ended], TOLD, b""),
+    (&[2], &[], &[Turn::Idle, Turn::Ended], TOLD, b""),
+    (&[3], &[], &[Turn::Idle, Turn::Ended], TOLD, b""),
+];
+
+fn check_fate<H: Home, R: Threads + Wait + Abort + Alloc<A = Global> + Sync>(
+    rt: &R,
+    house: &House<Edition, NoKeep, H>,
+    seat: &mut Seat<Edition, H>,
+    fate: &Fate,
+) {
+    let (agains, failing, turns, taken, left) = fate;
+    let link = MemLink::new(rt.alloc(), ASKED, 64, &[], agains, failing).expect(rt, "memory");
+    let conn = served(rt, house, seat, link, turns);
+    assert_eq!(rt; conn.link().taken(), *taken);
+    assert_eq!(rt; conn.session().out(), *left);
+}
+
 fn one_line<H: Home, R: Threads + Wait + Abort + Alloc<A = Global> + Sync>(
     rt: &R,
     opened: Opened,
@@ -70,20 +101,8 @@ fn one_line<H: Home, R: Threads + Wait + Abort + Alloc<A = Global> + Sync>(
     requires seats { (H.all ≡ 1) × (H.parts ≡ 1) }
 {
     let (house, mut seat) = house_of_one::<NoKeep, H, R>(rt, opened, blank, NoKeep);
-    let table: [(&[u64], &[u64], &[Turn], &[u8], &[u8]); 7] = [
-        (&[], &[], &[Turn::Ended], TOLD, b""),
-        (&[], &[1], &[Turn::LinkFault], b"", b""),
-        (&[], &[2], &[Turn::LinkFault], b"", TOLD),
-        (&[], &[3], &[Turn::LinkFault], TOLD, b""),
-        (&[1], &[], &[Turn::Idle, Turn::Ended], TOLD, b""),
-        (&[2], &[], &[Turn::Idle, Turn::Ended], TOLD, b""),
-        (&[3], &[], &[Turn::Idle, Turn::Ended], TOLD, b""),
-    ];
-    for (agains, failing, turns, taken, left) in &table {
-        let link = MemLink::new(rt.alloc(), ASKED, 64, &[], agains, failing).expect(rt, "memory");
-        let conn = served(rt, &house, &mut seat, link, turns);
-        assert_eq!(rt; conn.link().taken(), *taken);
-        assert_eq!(rt; conn.session().out(), *left);
+    for fate in FATES {
+        check_fate(rt, &house, &mut seat, fate);
     }
 }
 
@@ -117,6 +136,23 @@ impl Gate for Passes {
     }
 }
 
+// Two turns, in which nine lines are taken and replied to.
+fn serve_mixed<K: Keep + Drop, H: Home, R: Threads + Wait + Abort + Alloc<A = Global> + Sync>(
+    rt: &R,
+    house: &House<Edition, K, H>,
+    seat: &mut Seat<Edition, H>,
+    conn: &mut Conn<MemLink>,
+) {
+    let gate = Passes {
+        taken: AtomicU32::new(0),
+        replied: AtomicU32::new(0),
+    };
+    assert!(rt; serve_turn(rt, rt.alloc(), house, seat, conn, &gate) == Turn::Idle);
+    assert!(rt; serve_turn(rt, rt.alloc(), house, seat, conn, &gate) == Turn::Ended);
+    let taken = gate.taken.load(Ordering::SeqCst);
+    assert_eq!(rt; (taken, gate.replied.load(Ordering::SeqCst)), (9, 9));
+}
+
 fn mixed<H: Home, R: Threads + Wait + Abort + Alloc<A = Global> + Sync>(
     rt: &R,
     opened: Opened,
@@ -128,21 +164,10 @@ fn mixed<H: Home, R: Threads + Wait + Abort + Alloc<A = Global> + Sync>(
 {
     let keeper = MemKeep::new(rt.alloc(), &[3]).expect(rt, "memory");
     let (house, mut seat) = house_of_one::<MemKeep, H, R>(rt, opened, blank, keeper);
-    let gate = Passes {
-        taken: AtomicU32::new(0),
-        replied: AtomicU32::new(0),
-    };
     let link = MemLink::new(rt.alloc(), MIXED, 4096, &[100, 1], &[2], &[]).expect(rt, "memory");
     let mut conn = Conn::new(rt.alloc(), 0, link).expect(rt, "memory");
-    for turn in [Turn::Idle, Turn::Ended] {
-        assert_eq!(rt;
-            serve_turn(rt, rt.alloc(), &house, &mut seat, &mut conn, &gate),
-            turn
-        );
-    }
+    serve_mixed(rt, &house, &mut seat, &mut conn);
     assert_eq!(rt; conn.link().taken(), REPLIED);
-    assert_eq!(rt; gate.taken.load(Ordering::SeqCst), 9);
-    assert_eq!(rt; gate.replied.load(Ordering::SeqCst), 9);
 }
 
 #[test]
@@ -158,6 +183,30 @@ const FREE: &[u8] =
 const FREELY: &[u8] =
     b"{\"id\":4,\"ok\":\"done\",\"v\":0}\n{\"no\":\"not_json\",\"v\":0}\n{\"list\":[],\"ok\":\"caps\",\"v\":0}\n{\"no\":\"not_request\",\"v\":0}\n";
 
+// Lines of which so many bytes come first.
+fn check_piece<H: Home, R: Threads + Wait + Abort + Alloc<A = Global> + Sync>(
+    rt: &R,
+    house: &House<Edition, NoKeep, H>,
+    seat: &mut Seat<Edition, H>,
+    first: u32,
+) {
+    let link = MemLink::new(rt.alloc(), FREE, 256, &[first], &[], &[]).expect(rt, "memory");
+    let conn = served(rt, house, seat, link, &[Turn::Ended]);
+    assert_eq!(rt; conn.link().taken(), FREELY);
+}
+
+// More lines than one turn answers.
+fn check_many<H: Home, R: Threads + Wait + Abort + Alloc<A = Global> + Sync>(
+    rt: &R,
+    house: &House<Edition, NoKeep, H>,
+    seat: &mut Seat<Edition, H>,
+) {
+    let many = ASKED.repeat(rt.alloc(), 65).expect(rt, "memory");
+    let link = MemLink::new(rt.alloc(), &many, 4096, &[], &[], &[]).expect(rt, "memory");
+    let conn = served(rt, house, seat, link, &[Turn::More, Turn::Ended]);
+    assert_eq!(rt; conn.link().taken().len(), 65 * TOLD.len());
+}
+
 fn pieces<H: Home, R: Threads + Wait + Abort + Alloc<A = Global> + Sync>(
     rt: &R,
     opened: Opened,
@@ -169,14 +218,9 @@ fn pieces<H: Home, R: Threads + Wait + Abort + Alloc<A = Global> + Sync>(
 {
     let (house, mut seat) = house_of_one::<NoKeep, H, R>(rt, opened, blank, NoKeep);
     for first in 1..72u32 {
-        let link = MemLink::new(rt.alloc(), FREE, 256, &[first], &[], &[]).expect(rt, "memory");
-        let conn = served(rt, &house, &mut seat, link, &[Turn::Ended]);
-        assert_eq!(rt; conn.link().taken(), FREELY);
+        check_piece(rt, &house, &mut seat, first);
     }
-    let many = ASKED.repeat(rt.alloc(), 65).expect(rt, "memory");
-    let link = MemLink::new(rt.alloc(), &many, 4096, &[], &[], &[]).expect(rt, "memory");
-    let conn = served(rt, &house, &mut seat, link, &[Turn::More, Turn::Ended]);
-    assert_eq!(rt; conn.link().taken().len(), 65 * TOLD.len());
+    check_many(rt, &house, &mut seat);
 }
 
 #[test]

@@ -4,7 +4,7 @@
 -- prohibition is told is the project's own.
 use Rattle.std.specs.Prelude.{ℕ, Bool, false, not, ◌==◌, ◌&&◌, ◌||◌, List, [], ◌∷◌, ◌++◌, map, Option, None, Some, filter, find}
 use Rattle.std.specs.List.{list_any, list_all, position_from}
-use Rattle.pm_model.specs.RightSet.{has_right, from_bits}
+use Rattle.pm_model.specs.RightSet.{has_right, from_bits, right_bits}
 use Rattle.pm_model.specs.declared.prohibitions.Prohibition.{Prohibition}
 use Rattle.pm_model.specs.declared.prohibitions.Subject.{Subject}
 use Rattle.pm_model.specs.declared.prohibitions.Subject.TheVariants.{User, Ua, Process}
@@ -72,7 +72,7 @@ module _ (below : ℕ → ℕ → Bool) where
 
   -- the set of the rights that u has on e
   abbrev pub rights_on : List Association → List Prohibition → List ℕ → ℕ → ℕ → ℕ
-  rights_on associations prohibitions classes u e = from_bits (has_right_on associations prohibitions classes u e) 64
+  rights_on associations prohibitions classes u e = from_bits (has_right_on associations prohibitions classes u e) right_bits
 
 -- what a judge goes by: which elements are live, and the set of the rights that a user has on an element
 pub record Judgement : Type 0 where

@@ -9,6 +9,10 @@ is_between low high x = nat_le low x && nat_le x high
 abbrev pub is_name_byte : ℕ → Bool
 is_name_byte x = is_between 97 122 x || is_between 65 90 x || is_between 48 57 x || x == 95 || x == 45 || x == 46
 
--- 1 to 64 such bytes
+-- how many bytes a name has at most
+abbrev pub longest_name : ℕ
+longest_name = 64
+
+-- 1 to so many such bytes
 abbrev pub is_name : List ℕ → Bool
-is_name xs = nat_lt 0 (length xs) && nat_le (length xs) 64 && list_all is_name_byte xs
+is_name xs = nat_lt 0 (length xs) && nat_le (length xs) longest_name && list_all is_name_byte xs

@@ -2,7 +2,7 @@
 -- a number are the project's own.
 use Rattle.std.specs.Prelude.{ℕ, zero, suc, ◌+◌, if◌then◌else◌, Bool, ◌==◌, ◌||◌, ◌^◌, nat_lt, nat_le, List, [], ◌∷◌, length, Option, codes, bytes_eq, bit_or, map}
 use Rattle.std.specs.List.{list_any, position_from}
-use Rattle.std.specs.Int.{bit_at}
+use Rattle.std.specs.Int.{Width, bit_at, w64}
 use Rattle.pm_model.specs.Words.{word_text}
 use Rattle.pm_model.specs.declared.words.Word.{Word}
 use Rattle.pm_model.specs.declared.words.Word.TheVariants as word
@@ -31,6 +31,13 @@ opening_rights =
     ∷ codes "assign" ∷ codes "assign_to" ∷ codes "deassign" ∷ codes "deassign_from"
     ∷ codes "associate" ∷ codes "associate_to" ∷ codes "prohibit" ∷ codes "prohibit_to"
     ∷ codes "oblige" ∷ codes "review" ∷ []
+
+-- how many rights a set can hold: the width of the number that it is
+abbrev pub right_bits : ℕ
+right_bits = 64
+
+abbrev pub right_width : Width
+right_width = w64
 
 abbrev pub max_rights : ℕ
 max_rights = 64

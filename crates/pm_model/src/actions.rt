@@ -160,7 +160,7 @@ pub type ActionList = ItemList<Action>;
 pub(crate) fn copied(alloc: Global, actions: &[Action]) -> Result<ActionList, Memory>
     ensures { IfOk result (λ same. same ≡ actions.now) }
 {
-    let mut same = ActionList::new(alloc);
+    let mut same = ActionList::with_room(alloc, actions.len())?;
     for action in actions {
         same.push(action.copy()?)?;
     }

@@ -38,6 +38,6 @@ pub use reading::{Bars, Grants, Judge, NameOf, Parents, Reach};
 pub use replies::{ChangeError, Made, Reason, Refusal, Reply, Shown, Table};
 pub use requests::{Asked, Body, Change, Command, Entry, Question, Request, Review, What};
 pub use reviews::{ChangeList, Changed, CountList, Pair, PairList, ReviewOf};
-pub use rights::{Association, Grant, Grantee, Rights, is_access_right};
+pub use rights::{Association, Grant, Grantee, RightWord, Rights, is_access_right};
 pub use sessions::{Process, Session};
 pub use words::{Key, Word};

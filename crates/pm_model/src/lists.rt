@@ -41,6 +41,16 @@ impl<T> ItemList<T> {
         }
     }
 
+    /// The empty list with room for so many items and no more.
+    pub fn with_room(alloc: Global, room: usize) -> Result<Self, Memory>
+        ensures { IfOk result (λ list. list ≡ []) }
+    {
+        match Vec::with_capacity(alloc, room) {
+            Ok(items) => Ok(ItemList { items }),
+            Err(_) => Err(Memory),
+        }
+    }
+
     /// How many items it has.
     pub fn len(&self) -> usize
         ensures { result ≡ length self.now }

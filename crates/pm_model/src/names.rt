@@ -2,18 +2,19 @@
 
 ghost use Rattle.std.specs.Prelude.{◌≡◌, ◌↔◌, ◌≤◌, IsTrue, IsSome, IfSome, length, replicate, ◌-◌, ◌++◌, ◌&&◌, nat_lt, nat_le};
 ghost use Rattle.std.specs.List.{list_all};
-ghost use Rattle.pm_model.specs.Name.{is_name, is_name_byte};
+ghost use Rattle.pm_model.specs.Name.{is_name, is_name_byte, longest_name};
 
 use std::hash::{Hash, Hasher};
 use std::marker::Model;
 
+/// How many bytes a name has at most.
 const LONGEST: usize = 64;
 
 /// A name of 1 to 64 ASCII letters, digits, `_`, `-` and `.`. It takes no memory of its own and is
 /// copied. Contracts see the list of its bytes.
 pub struct Name {
-    bytes: [u8; 64],
     len: u8,
+    bytes: [u8; LONGEST],
 }
 
 impl Model for Name {
@@ -93,7 +94,7 @@ fn all_name_bytes(bytes: &[u8]) -> bool
 }
 
 fn has_name_length(len: usize) -> bool
-    ensures { result ≡ (nat_lt 0 len && nat_le len 64) }
+    ensures { result ≡ (nat_lt 0 len && nat_le len longest_name) }
 {
     0 < len && len <= LONGEST
 }
@@ -105,11 +106,11 @@ fn is_name(bytes: &[u8]) -> bool
 }
 
 // The bytes, and then zeros: two names with the same bytes have the same fields.
-fn padded(bytes: &[u8]) -> [u8; 64]
-    requires { length bytes.now ≤ 64 }
-    ensures { result ≡ bytes.now ++ replicate (64 - length bytes.now) 0 }
+fn padded(bytes: &[u8]) -> [u8; LONGEST]
+    requires { length bytes.now ≤ longest_name }
+    ensures { result ≡ bytes.now ++ replicate (longest_name - length bytes.now) 0 }
 {
-    let mut held = [0u8; 64];
+    let mut held = [0u8; LONGEST];
     for (i, byte) in bytes.iter().enumerate() {
         held[i] = *byte;
     }

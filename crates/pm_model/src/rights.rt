@@ -1,15 +1,18 @@
 //! Sets of rights, and what gives them.
 
 ghost use Rattle.std.specs.Prelude.{◌≡◌, ◌<◌, ◌==◌, ◌^◌, bit_or};
-ghost use Rattle.pm_model.specs.RightSet.{has_right, is_access_right};
+ghost use Rattle.pm_model.specs.RightSet.{has_right, is_access_right, right_bits};
 
 use crate::elements::ElementId;
 use crate::lists::ItemList;
 use std::marker::Model;
 
+/// The number that a set of rights is.
+pub type RightWord = u64;
+
 /// A set of access and administrative rights, each a bit of the number that contracts see.
 #[derive(Clone, Copy, Debug, PartialEq, Eq)]
-pub struct Rights(pub u64);
+pub struct Rights(pub RightWord);
 
 impl Model for Rights {
     ghost use Rattle.std.specs.Prelude.{ℕ};
@@ -24,7 +27,7 @@ impl Model for Rights {
 impl Rights {
     /// Whether the right of this bit is in the set.
     pub fn has(self, bit: u8) -> bool
-        requires { bit < 64 }
+        requires { bit < right_bits }
         ensures { result ≡ has_right self bit }
     {
         (self.0 >> bit) & 1 == 1
@@ -39,7 +42,7 @@ impl Rights {
 
     /// The set of one right.
     pub fn one(bit: u8) -> Rights
-        requires { bit < 64 }
+        requires { bit < right_bits }
         ensures { result ≡ 2 ^ bit }
     {
         Rights(1 << bit)

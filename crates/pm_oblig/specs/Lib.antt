@@ -1,4 +1,5 @@
 pub mod Awaited
 pub mod Kept
+pub mod Lists
 pub mod Told
 pub mod Worked

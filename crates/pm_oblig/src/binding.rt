@@ -1,7 +1,8 @@
 //! The command that an action comes to, once its words are replaced.
 
-ghost use Rattle.std.specs.Prelude.{◌≡◌, IfOk, map};
+ghost use Rattle.std.specs.Prelude.{◌≡◌, false, IfOk, IsOk, map};
 ghost use Rattle.pm_model.specs.Responses.{bound, command_of, subject_of, process_of, name_of};
+ghost use Rattle.pm_oblig.specs.Lists.{has_lists};
 
 use crate::fresh::fresh_name;
 use pm_model::{
@@ -55,7 +56,8 @@ fn subject_of(
 }
 
 fn command_of(names: &EventNames, fresh: Name, act: &Act) -> Result<Command, Memory>
-    ensures { IfOk result (λ command. command ≡ command_of names.now fresh act.now) }
+    ensures value { IfOk result (λ command. command ≡ command_of names.now fresh act.now) }
+    ensures free { has_lists act.now ≡ false → IsOk result }
 {
     let name_of = |term: &Term| name_of(names, fresh, term);
     Ok(match act {
@@ -104,14 +106,16 @@ fn command_of(names: &EventNames, fresh: Name, act: &Act) -> Result<Command, Mem
 }
 
 /// The command that the action gives: each word of the action stands for the event's user, target or process, or for
-/// the name that is new at this version and this place. The guards aren't looked at.
+/// the name that is new at this version and this place. The guards aren't looked at. Only the lists of names of an
+/// association and of a prohibition take memory.
 pub fn bind(
     action: &Action,
     names: &EventNames,
     place: Place,
     version: u64,
 ) -> Result<Command, Memory>
-    ensures { IfOk result (λ command. command ≡ bound names.now place version action.now.act) }
+    ensures value { IfOk result (λ command. command ≡ bound names.now place version action.now.act) }
+    ensures free { has_lists action.now.act ≡ false → IsOk result }
 {
     command_of(names, fresh_name(place, version), &action.act)
 }

@@ -1,12 +1,11 @@
 //! A leaf: a list of a row, the row's own or shared with copies of the row.
 
 ghost use Rattle.std.specs.Prelude.{◌≡◌, ◌<◌, ◌≤◌, [], true, Some, length, insert, slice_get, slice_set, OnOk, OnErr, IfOk, IsOk};
-ghost use Rattle.std.specs.List.{remove};
 ghost use Rattle.std.specs.Borrow.{Lends, sem};
 
 use crate::blocks::Block;
 use crate::copies::CopyOf;
-use crate::pages::{Page, copy_page, insert_into, items, own, own_of, remove_from, share};
+use crate::pages::{Page, copy_page, insert_into, items, own, own_of, share};
 use pm_model::Memory;
 use std::alloc::Global;
 use std::marker::Model;
@@ -65,16 +64,6 @@ impl<T: Drop> Leaf<T> {
         ensures { self.new.items ≡ self.old.items }
     {
         share(alloc, &mut self.page)
-    }
-
-    /// Takes the item at a place out.
-    pub(crate) fn remove(&mut self, j: usize) -> T
-        requires own { self.old.own ≡ true }
-        requires place { j < length self.old.items }
-        ensures item { slice_get self.old.items j ≡ Some result }
-        ensures leaf { self.new ≡ record self.old { items = remove self.old.items j } }
-    {
-        remove_from(&mut self.page, j)
     }
 }
 

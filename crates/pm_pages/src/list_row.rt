@@ -2,7 +2,6 @@
 
 ghost use Rattle.std.specs.Prelude.{◌≡◌, ◌<◌, ◌≤◌, [], ◌∷◌, ◌++◌, true, false, length, insert, map, slice_get, OnOk, OnErr, IfOk, IsOk, Some};
 ghost use Rattle.std.specs.Borrow.{sem};
-ghost use Rattle.std.specs.List.{remove};
 ghost use Rattle.pm_pages.specs.Leaves.{IsOwnList, KeepsLists, held};
 ghost use Rattle.pm_pages.specs.Listed.{edited, list_at};
 
@@ -165,19 +164,5 @@ impl<T: CopyOf + Drop> ListRow<T> {
         self.leaves.own_at(k)?;
         let alloc = self.leaves.allocator();
         self.leaves.edit(k).insert(alloc, j, item)
-    }
-
-    /// Takes the item at a place of list k out. On Memory the lists are as before.
-    pub fn remove(&mut self, k: usize, j: usize) -> Result<(), Memory>
-        requires list { k < length self.old.lists }
-        requires place { j < length (list_at self.old.lists k) }
-        ensures lists { OnOk result (self.new.lists ≡ edited (λ list. remove list j) k self.old.lists) }
-        ensures err { OnErr result (self.new.lists ≡ self.old.lists) }
-        ensures sure { self.old.alone ≡ true → IsOk result }
-        ensures alone { self.new.alone ≡ self.old.alone }
-    {
-        self.own_at(k)?;
-        let _gone = self.leaves.edit(k).remove(j);
-        Ok(())
     }
 }

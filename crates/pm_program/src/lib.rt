@@ -1,7 +1,6 @@
-//! The program over any machine: what its words ask for, and a run.
+//! The program over any machine: a run, or what else its words ask for.
 #![tactic(auto)]
 
 mod program;
-mod words;
 
 pub use program::{say, top};

@@ -1,18 +1,20 @@
 //! The program, over what it reads and writes.
-ghost use Rattle.std.specs.Prelude.{◌≡◌, ◌≢◌, ◌↔◌, ◌^◌, ℕ};
+ghost use Rattle.std.specs.Prelude.{◌≡◌, ◌≢◌, ◌↔◌, ◌^◌, ℕ, IfErr};
+ghost use Rattle.std.specs.IoError.{error_kind};
 ghost use Rattle.pm_model.specs.Causes.{Rose, raised};
 ghost use Rattle.pm_run.specs.Ran.{Ran, IsComplete};
 ghost use Rattle.pm_program.specs.Said.{Said};
 ghost use Rattle.pm_run.specs.Statuses.{status_text};
-ghost use Rattle.pm_program.specs.Words.{AskRun, AskServe, AskOther, LackMemory};
+ghost use Rattle.pm_words.specs.Words.{AskRun, AskServe, AskOther, usage_line};
 
-use crate::words::{Asked, read_words};
 use pm_machine::Answerer;
 use pm_model::{Memory, Sink, Source};
 use pm_run::{Status, run_lines, write_all};
+use pm_words::{Asked, read_words};
 use std::alloc::Global;
 use std::env::Args;
 use std::io;
+use std::io::ErrorKind;
 use std::thread::Threads;
 
 const LIMIT: u64 = 1 << 40;
@@ -25,7 +27,8 @@ pub fn say<E: Sink>(err: &mut E, status: Status)
 }
 
 /// The program: with the one word `run` behind its name it answers the lines of the source, up to 2^40 bytes of it. With
-/// `serve`, a port and a number of workers it tells that a server is asked for, and does nothing.
+/// `serve`, a port and a number of workers it tells that a server is asked for, and does nothing. To read its words takes
+/// memory; where there is none for that, it does nothing either.
 pub fn top<M: Answerer + Drop, I: Source, O: Sink, E: Sink, R: Threads + Sync>(
     rt: &R,
     alloc: Global,
@@ -34,10 +37,12 @@ pub fn top<M: Answerer + Drop, I: Source, O: Sink, E: Sink, R: Threads + Sync>(
     out: &mut O,
     err: &mut E,
 ) -> Status
-    ensures usage { (result ≡ Status.Usage) ↔ AskOther args }
-    ensures serve { (port workers : ℕ) → (result ≡ Status.Serve port workers) ↔ AskServe args port workers }
+    ensures usage { result ≢ Status.Memory → ((result ≡ Status.Usage) ↔ AskOther args) }
+    ensures usage_line { result ≡ Status.Usage → status_text result ≡ usage_line }
+    ensures serve { (port workers : ℕ) → result ≢ Status.Memory
+        → ((result ≡ Status.Serve port workers) ↔ AskServe args port workers) }
     ensures listening { result ≢ Status.ListenFault }
-    ensures memory { LackMemory args → result ≡ Status.Memory }
+    ensures memory { IfErr args (λ error. (result ≡ Status.Memory) ↔ (error_kind error ≡ ErrorKind.OutOfMemory)) }
     ensures unread { ¬ AskRun args → source.new ≡ source.old }
     ensures unwritten { ¬ AskRun args → out.new ≡ out.old }
     ensures ran { Ran (2 ^ 40) (I.left source.old) (I.left source.new) (O.taken out.old) (O.taken out.new) result }
@@ -51,7 +56,7 @@ pub fn top<M: Answerer + Drop, I: Source, O: Sink, E: Sink, R: Threads + Sync>(
     ensures end_kept { result ≢ Status.Done → I.ends source.new ≡ I.ends source.old }
     ensures said { Said (E.taken err.old) (E.taken err.new) (E.faults err.old) (E.faults err.new) (status_text result) }
 {
-    let status = match read_words(args) {
+    let status = match read_words(alloc, args) {
         Ok(Some(Asked::Run)) => run_lines::<M, I, O, R>(rt, alloc, LIMIT, source, out),
         Ok(Some(Asked::Serve { port, workers })) => Status::Serve { port, workers },
         Ok(None) => Status::Usage,

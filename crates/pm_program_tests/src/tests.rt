@@ -1,7 +1,7 @@
 //! Whole runs over memory: what is written, and how each ends.
 
 use pm_io::{CalmSource, MemSink, MemSource};
-use pm_model::{Failed, Sink, Source};
+use pm_model::{Failed, Memory, Sink, Source};
 use pm_program::top;
 use pm_run::{Status, run_lines};
 use pm_step::Solo;
@@ -49,6 +49,37 @@ struct Outside<'a> {
     room: usize,
 }
 
+// What a run reads, and what it writes.
+#[derive(Drop)]
+struct Streams<S> {
+    source: S,
+    out: MemSink,
+    err: MemSink,
+}
+
+// The status of the program that is called with these words.
+fn called<S: Source + Drop>(
+    rt: &(impl Threads + Abort + Alloc<A = Global> + Sync),
+    streams: &mut Streams<S>,
+    args: Result<Args, Error>,
+) -> Status {
+    let Streams { source, out, err } = streams;
+    top::<Solo, _, _, _, _>(rt, rt.alloc(), args, source, out, err)
+}
+
+// What the run failed at, and how much it may write.
+fn streams_of(
+    alloc: Global,
+    outside: &Outside<'_>,
+    input: &[u8],
+) -> Result<Streams<MemSource>, Memory> {
+    Ok(Streams {
+        source: MemSource::new(alloc, input, outside.reads)?,
+        out: MemSink::new(alloc, outside.room, outside.writes)?,
+        err: MemSink::new(alloc, 64, &[])?,
+    })
+}
+
 // What `ngac run` does with the input.
 fn check_run(
     rt: &(impl Threads + Abort + Alloc<A = Global> + Sync),
@@ -57,17 +88,11 @@ fn check_run(
     status: Status,
     output: &[u8],
 ) -> Result<(), Fail> {
-    let alloc = rt.alloc();
-    let mut source = MemSource::new(alloc, input, outside.reads)?;
-    let mut out = MemSink::new(alloc, outside.room, outside.writes)?;
-    let mut err = MemSink::new(alloc, 64, &[])?;
-    let args = Ok(args(alloc, &["run"])?);
-    assert_eq!(rt;
-        top::<Solo, _, _, _, _>(rt, alloc, args, &mut source, &mut out, &mut err),
-        status
-    );
-    assert_eq!(rt; out.taken(), output);
-    assert_eq!(rt; err.taken(), status.text().as_bytes());
+    let mut streams = streams_of(rt.alloc(), outside, input)?;
+    let args = args(rt.alloc(), &["run"])?;
+    assert_eq!(rt; called(rt, &mut streams, Ok(args)), status);
+    assert_eq!(rt; streams.out.taken(), output);
+    assert!(rt; streams.err.taken() == status.text().as_bytes());
     Ok(())
 }
 
@@ -77,53 +102,62 @@ const CALM: Outside<'static> = Outside {
     room: ROOM,
 };
 
+// The line twice, and the replies.
+fn twice(alloc: Global) -> Result<(Vec<u8>, Vec<u8>), AllocError> {
+    let lines = joined(alloc, &[FILES, FILES])?;
+    let replies = joined(alloc, &[DONE, TAKEN])?;
+    Ok((lines, replies))
+}
+
+static BAD: &[u8] = b"{\"cmd\":\"create_pc\",\"name\":\"files\",\"proc\":1}\n{}\n";
+
+static REFUSALS: &[u8] =
+    b"{\"no\":\"unknown_process\",\"v\":0}\n{\"no\":\"not_request\",\"v\":0}\n";
+
 #[test]
 fn lines_are_answered(rt: HostRuntime) -> Result<(), Fail> {
-    let twice = joined(rt.alloc(), &[FILES, FILES])?;
-    let both = joined(rt.alloc(), &[DONE, TAKEN])?;
-    let bad = b"{\"cmd\":\"create_pc\",\"name\":\"files\",\"proc\":1}\n{}\n".as_slice();
-    let refusals =
-        b"{\"no\":\"unknown_process\",\"v\":0}\n{\"no\":\"not_request\",\"v\":0}\n".as_slice();
-    let table = [
+    for (input, output) in [
         (b"".as_slice(), b"".as_slice()),
         (FILES, DONE),
-        (&twice, &both),
-        (bad, refusals),
+        (BAD, REFUSALS),
         (&FILES[..50], b""),
-    ];
-    for (input, output) in table {
+    ] {
         check_run(&rt, &CALM, input, Status::Done, output)?;
     }
     Ok(())
 }
 
 #[test]
-fn faults_end_the_run(rt: HostRuntime) -> Result<(), Fail> {
-    let twice = joined(rt.alloc(), &[FILES, FILES])?;
-    let both = joined(rt.alloc(), &[DONE, TAKEN])?;
-    let second_read = Outside {
+fn a_name_is_taken_once(rt: HostRuntime) -> Result<(), Fail> {
+    let (lines, replies) = twice(rt.alloc())?;
+    check_run(&rt, &CALM, &lines, Status::Done, &replies)
+}
+
+#[test]
+fn failed_reads_end_the_run(rt: HostRuntime) -> Result<(), Fail> {
+    let (lines, replies) = twice(rt.alloc())?;
+    let second = Outside {
         reads: &[2],
         ..CALM
     };
-    let first_read = Outside {
+    check_run(&rt, &second, &lines, Status::ReadFault, &replies)?;
+    let first = Outside {
         reads: &[1],
         ..CALM
     };
-    let first_write = Outside {
+    check_run(&rt, &first, &lines, Status::ReadFault, b"")
+}
+
+#[test]
+fn failed_writes_end_the_run(rt: HostRuntime) -> Result<(), Fail> {
+    let (lines, _) = twice(rt.alloc())?;
+    let first = Outside {
         writes: &[1],
         ..CALM
     };
+    check_run(&rt, &first, &lines, Status::WriteFault, b"")?;
     let little_room = Outside { room: 5, ..CALM };
-    let table = [
-        (second_read, Status::ReadFault, both.as_slice()),
-        (first_read, Status::ReadFault, b""),
-        (first_write, Status::WriteFault, b""),
-        (little_room, Status::WriteFault, b"{\"id\""),
-    ];
-    for (outside, status, output) in table {
-        check_run(&rt, &outside, &twice, status, output)?;
-    }
-    Ok(())
+    check_run(&rt, &little_room, &lines, Status::WriteFault, b"{\"id\"")
 }
 
 // A sink, and how many writes it was asked for.
@@ -146,214 +180,208 @@ impl Sink for Counted {
     }
 }
 
+// A run over the input whose read and write of these numbers fail: its status, and how many writes it asked for, of how many
+// bytes.
+fn written_in(
+    rt: &(impl Threads + Abort + Alloc<A = Global> + Sync),
+    input: &[u8],
+    read: u64,
+    write: u64,
+) -> Result<(Status, u64, usize), Fail> {
+    let alloc = rt.alloc();
+    let mut source = MemSource::new(alloc, input, &[read])?;
+    let sink = MemSink::new(alloc, 2 * ROOM, &[write])?;
+    let mut out = Counted { sink, writes: 0 };
+    let status = run_lines::<Solo, _, _, _>(rt, alloc, LIMIT, &mut source, &mut out);
+    Ok((status, out.writes, out.sink.taken().len()))
+}
+
+#[test]
+fn two_replies_are_written_together(rt: HostRuntime) -> Result<(), Fail> {
+    let (lines, replies) = twice(rt.alloc())?;
+    let bytes = replies.len();
+    assert_eq!(rt; written_in(&rt, &lines, 9, 9)?, (Status::Done, 1, bytes));
+    assert_eq!(rt;
+        written_in(&rt, &lines, 2, 9)?,
+        (Status::ReadFault, 1, bytes)
+    );
+    Ok(())
+}
+
 // An empty line is bad, which a reply of 24 bytes says. 4,096 of them are one piece, whose replies
 // are more than 65,536 bytes: so 2,689 are written first, since for one more there is no room of
 // 1,024 bytes.
 #[test]
-fn replies_to_a_piece_are_written_together(rt: HostRuntime) -> Result<(), Fail> {
-    let alloc = rt.alloc();
-    let twice = joined(alloc, &[FILES, FILES])?;
+fn replies_to_a_piece_are_written_where_there_is_room(rt: HostRuntime) -> Result<(), Fail> {
     let feeds = [b'\n'; 4096].as_slice();
-    let table = [
-        (
-            twice.as_slice(),
-            [9, 9],
-            Status::Done,
-            1,
-            DONE.len() + TAKEN.len(),
-        ),
-        (
-            &twice,
-            [2, 9],
-            Status::ReadFault,
-            1,
-            DONE.len() + TAKEN.len(),
-        ),
-        (feeds, [9, 9], Status::Done, 2, 4096 * 24),
-        (feeds, [9, 2], Status::WriteFault, 2, 2689 * 24),
-    ];
-    for (input, [read, write], status, writes, bytes) in table {
-        let mut source = MemSource::new(alloc, input, &[read])?;
-        let sink = MemSink::new(alloc, 2 * ROOM, &[write])?;
-        let mut out = Counted { sink, writes: 0 };
-        let found = run_lines::<Solo, _, _, _>(&rt, alloc, LIMIT, &mut source, &mut out);
-        assert_eq!(rt; found, status);
-        assert_eq!(rt; out.writes, writes);
-        assert_eq!(rt; out.sink.taken().len(), bytes);
-    }
+    let done = written_in(&rt, feeds, 9, 9)?;
+    assert_eq!(rt; done, (Status::Done, 2, 4096 * 24));
+    let failed = written_in(&rt, feeds, 9, 2)?;
+    assert_eq!(rt; failed, (Status::WriteFault, 2, 2689 * 24));
+    Ok(())
+}
+
+// A run over the line twice that may read so many bytes.
+fn check_limit(
+    rt: &(impl Threads + Abort + Alloc<A = Global> + Sync),
+    limit: u64,
+    status: Status,
+    output: &[u8],
+) -> Result<(), Fail> {
+    let alloc = rt.alloc();
+    let (lines, _) = twice(alloc)?;
+    let mut source = CalmSource::new(alloc, &lines)?;
+    let mut out = MemSink::new(alloc, ROOM, &[])?;
+    let found = run_lines::<Solo, _, _, _>(rt, alloc, limit, &mut source, &mut out);
+    assert_eq!(rt; found, status, "at {limit}");
+    assert_eq!(rt; out.taken(), output, "at {limit}");
     Ok(())
 }
 
 #[test]
 fn a_run_stops_at_its_limit(rt: HostRuntime) -> Result<(), Fail> {
-    let alloc = rt.alloc();
-    let twice = joined(alloc, &[FILES, FILES])?;
-    let both = joined(alloc, &[DONE, TAKEN])?;
-    let table = [
-        (0, Status::TooMuch, b"".as_slice()),
-        (50, Status::TooMuch, b""),
-        (51, Status::TooMuch, DONE),
-        (102, Status::TooMuch, &both),
-        (103, Status::Done, &both),
-    ];
-    for (limit, status, output) in table {
-        let mut source = CalmSource::new(alloc, &twice)?;
-        let mut out = MemSink::new(alloc, ROOM, &[])?;
-        assert_eq!(rt;
-            run_lines::<Solo, _, _, _>(&rt, alloc, limit, &mut source, &mut out),
-            status,
-            "at {limit}"
-        );
-        assert_eq!(rt; out.taken(), output, "at {limit}");
-    }
-    Ok(())
-}
-
-// A first piece of at most this many bytes, and then others.
-#[derive(Drop)]
-struct Pieces {
-    bytes: CalmSource,
-    first: usize,
-    then: usize,
-}
-
-impl Source for Pieces {
-    ghost use Rattle.std.specs.Prelude.{Some};
-
-    ghost left = { λ s. Some s.bytes.left };
-
-    ghost faults = { λ _. 0 };
-
-    ghost ends = { λ s. s.bytes.ends };
-
-    fn read(&mut self, piece: &mut [u8]) -> Result<usize, Failed> {
-        let most = self.first.clamp(1, piece.len());
-        self.first = self.then;
-        self.bytes.read(&mut piece[..most])
-    }
+    let (_, replies) = twice(rt.alloc())?;
+    check_limit(&rt, 0, Status::TooMuch, b"")?;
+    check_limit(&rt, 50, Status::TooMuch, b"")?;
+    check_limit(&rt, 51, Status::TooMuch, DONE)?;
+    check_limit(&rt, 102, Status::TooMuch, &replies)?;
+    check_limit(&rt, 103, Status::Done, &replies)
 }
 
 const USAGE: &str = "usage: ngac run | ngac serve PORT WORKERS\n";
 
+fn calm(alloc: Global, room: usize) -> Result<Streams<CalmSource>, Memory> {
+    Ok(Streams {
+        source: CalmSource::new(alloc, FILES)?,
+        out: MemSink::new(alloc, ROOM, &[])?,
+        err: MemSink::new(alloc, room, &[])?,
+    })
+}
+
+// The line is still there to be read, and answered.
+fn check_unread(
+    rt: &(impl Threads + Abort + Alloc<A = Global> + Sync),
+    streams: &mut Streams<CalmSource>,
+) {
+    let Streams { source, out, .. } = streams;
+    assert!(rt; out.taken().is_empty());
+    let status = run_lines::<Solo, _, _, _>(rt, rt.alloc(), LIMIT, source, out);
+    assert!(rt; status == Status::Done);
+    assert_eq!(rt; out.taken(), DONE);
+}
+
+static OUTSIDE_THE_GRAMMAR: &[&[&str]] = &[
+    &[],
+    &["run", "x"],
+    &["walk"],
+    &["run "],
+    &["serve", "1"],
+    &["serve", "0", "33"],
+    &["serve", "0", "0"],
+    &["serve", "01", "2"],
+    &["serve", "65536", "2"],
+    &["serve", "+1", "2"],
+    &["serve", "1", "2", "3"],
+    &["--help"],
+];
+
 #[test]
 fn other_words_are_usage(rt: HostRuntime) -> Result<(), Fail> {
-    let alloc = rt.alloc();
-    let table = [
-        [].as_slice(),
-        &["run", "x"],
-        &["walk"],
-        &["run "],
-        &["serve", "1"],
-        &["serve", "0", "33"],
-        &["serve", "0", "0"],
-        &["serve", "01", "2"],
-        &["serve", "65536", "2"],
-        &["serve", "+1", "2"],
-        &["serve", "1", "2", "3"],
-        &["--help"],
-    ];
-    for texts in table {
-        let mut source = CalmSource::new(alloc, FILES)?;
-        let mut out = MemSink::new(alloc, ROOM, &[])?;
-        let mut err = MemSink::new(alloc, 64, &[])?;
-        let args = Ok(args(alloc, texts)?);
-        let status = top::<Solo, _, _, _, _>(&rt, alloc, args, &mut source, &mut out, &mut err);
-        assert_eq!(rt; status, Status::Usage);
-        assert_eq!(rt; err.taken(), USAGE.as_bytes());
-        assert!(rt; out.taken().is_empty());
-        assert_eq!(rt;
-            run_lines::<Solo, _, _, _>(&rt, alloc, LIMIT, &mut source, &mut out),
-            Status::Done
-        );
-        assert_eq!(rt; out.taken(), DONE);
+    for texts in OUTSIDE_THE_GRAMMAR {
+        let mut streams = calm(rt.alloc(), 64)?;
+        let args = args(rt.alloc(), texts)?;
+        assert!(rt; called(&rt, &mut streams, Ok(args)) == Status::Usage);
+        assert!(rt; streams.err.taken() == USAGE.as_bytes());
+        check_unread(&rt, &mut streams);
     }
     Ok(())
 }
 
 // Nothing is read or written yet where a server is asked for.
+fn check_serve(
+    rt: &(impl Threads + Abort + Alloc<A = Global> + Sync),
+    texts: &[&str],
+    port: u16,
+    workers: u16,
+) -> Result<(), Fail> {
+    let mut streams = calm(rt.alloc(), 64)?;
+    let args = args(rt.alloc(), texts)?;
+    let status = called(rt, &mut streams, Ok(args));
+    assert_eq!(rt; status, Status::Serve { port, workers });
+    assert!(rt; streams.err.taken().is_empty());
+    check_unread(rt, &mut streams);
+    Ok(())
+}
+
 #[test]
 fn a_server_is_asked_for(rt: HostRuntime) -> Result<(), Fail> {
-    let alloc = rt.alloc();
-    let table = [
-        (["serve", "8080", "2"], 8080, 2),
-        (["serve", "0", "1"], 0, 1),
-        (["serve", "65535", "32"], 65535, 32),
-    ];
-    for (texts, port, workers) in table {
-        let mut source = CalmSource::new(alloc, FILES)?;
-        let mut out = MemSink::new(alloc, ROOM, &[])?;
-        let mut err = MemSink::new(alloc, 64, &[])?;
-        let args = Ok(args(alloc, &texts)?);
-        let status = top::<Solo, _, _, _, _>(&rt, alloc, args, &mut source, &mut out, &mut err);
-        assert_eq!(rt; status, Status::Serve { port, workers });
-        assert!(rt; out.taken().is_empty());
-        assert!(rt; err.taken().is_empty());
-        assert_eq!(rt;
-            run_lines::<Solo, _, _, _>(&rt, alloc, LIMIT, &mut source, &mut out),
-            Status::Done
-        );
-    }
+    check_serve(&rt, &["serve", "8080", "2"], 8080, 2)?;
+    check_serve(&rt, &["serve", "0", "1"], 0, 1)?;
+    check_serve(&rt, &["serve", "65535", "32"], 65535, 32)
+}
+
+// Where the words can't be had the run ends so.
+fn check_no_words(
+    rt: &(impl Threads + Abort + Alloc<A = Global> + Sync),
+    kind: ErrorKind,
+    status: Status,
+) -> Result<(), Fail> {
+    let mut streams = calm(rt.alloc(), 64)?;
+    let found = called(rt, &mut streams, Err(Error::from(kind)));
+    assert_eq!(rt; found, status);
+    assert!(rt; streams.out.taken().is_empty());
+    assert!(rt; streams.err.taken() == status.text().as_bytes());
     Ok(())
 }
 
 // A word that is no text is outside the grammar.
 #[test]
 fn words_that_cannot_be_had_end_the_run(rt: HostRuntime) -> Result<(), Fail> {
+    check_no_words(&rt, ErrorKind::InvalidData, Status::Usage)?;
+    check_no_words(&rt, ErrorKind::OutOfMemory, Status::Memory)
+}
+
+// The first read fails, and so does the write of this number of what is said of it, for which there is so much room.
+fn check_failing_err(
+    rt: &(impl Threads + Abort + Alloc<A = Global> + Sync),
+    word: &str,
+    room: usize,
+    failing: u64,
+    status: Status,
+    said: &[u8],
+) -> Result<(), Fail> {
     let alloc = rt.alloc();
-    let table = [
-        (ErrorKind::InvalidData, Status::Usage),
-        (ErrorKind::OutOfMemory, Status::Memory),
-    ];
-    for (kind, status) in table {
-        let mut source = CalmSource::new(alloc, FILES)?;
-        let mut out = MemSink::new(alloc, ROOM, &[])?;
-        let mut err = MemSink::new(alloc, 64, &[])?;
-        let args = Err(Error::from(kind));
-        assert_eq!(rt;
-            top::<Solo, _, _, _, _>(&rt, alloc, args, &mut source, &mut out, &mut err),
-            status
-        );
-        assert!(rt; out.taken().is_empty());
-        assert_eq!(rt; err.taken(), status.text().as_bytes());
-    }
+    let args = args(alloc, &[word])?;
+    let mut streams = Streams {
+        source: MemSource::new(alloc, FILES, &[1])?,
+        out: MemSink::new(alloc, ROOM, &[])?,
+        err: MemSink::new(alloc, room, &[failing])?,
+    };
+    assert_eq!(rt; called(rt, &mut streams, Ok(args)), status);
+    assert_eq!(rt; streams.err.taken(), said);
     Ok(())
 }
 
 #[test]
 fn a_failing_err_changes_no_status(rt: HostRuntime) -> Result<(), Fail> {
-    let alloc = rt.alloc();
-    let table = [
-        ("run", 64, 1, Status::ReadFault, b"".as_slice()),
-        ("run", 4, 9, Status::ReadFault, b"ngac"),
-        ("walk", 64, 1, Status::Usage, b""),
-    ];
-    for (word, room, failing, status, said) in table {
-        let mut source = MemSource::new(alloc, FILES, &[1])?;
-        let mut out = MemSink::new(alloc, ROOM, &[])?;
-        let mut err = MemSink::new(alloc, room, &[failing])?;
-        let args = Ok(args(alloc, &[word])?);
-        assert_eq!(rt;
-            top::<Solo, _, _, _, _>(&rt, alloc, args, &mut source, &mut out, &mut err),
-            status
-        );
-        assert_eq!(rt; err.taken(), said);
-    }
-    Ok(())
+    check_failing_err(&rt, "run", 64, 1, Status::ReadFault, b"")?;
+    check_failing_err(&rt, "run", 4, 9, Status::ReadFault, b"ngac")?;
+    check_failing_err(&rt, "walk", 64, 1, Status::Usage, b"")
 }
+
+static STATUSES: &[(Status, u8, &str)] = &[
+    (Status::Done, 0, ""),
+    (Status::Usage, 2, USAGE),
+    (Status::ReadFault, 3, "ngac: read failed\n"),
+    (Status::WriteFault, 4, "ngac: write failed\n"),
+    (Status::Memory, 5, "ngac: out of memory\n"),
+    (Status::TooMuch, 6, "ngac: too much input\n"),
+    (Status::ListenFault, 7, "ngac: listen failed\n"),
+];
 
 #[test]
 fn statuses_have_their_numbers_and_texts(rt: HostRuntime) {
-    let table = [
-        (Status::Done, 0, ""),
-        (Status::Usage, 2, USAGE),
-        (Status::ReadFault, 3, "ngac: read failed\n"),
-        (Status::WriteFault, 4, "ngac: write failed\n"),
-        (Status::Memory, 5, "ngac: out of memory\n"),
-        (Status::TooMuch, 6, "ngac: too much input\n"),
-        (Status::ListenFault, 7, "ngac: listen failed\n"),
-    ];
-    for (status, number, text) in table {
-        assert_eq!(rt; status.number(), number);
-        assert_eq!(rt; status.text(), text);
+    for (status, number, text) in STATUSES {
+        assert_eq!(rt; (status.number(), status.text()), (*number, *text));
     }
 }

@@ -2,6 +2,7 @@
 
 ghost use Rattle.std.specs.Prelude.{◌≡◌, ◌≤◌, ◌^◌, length, count_ones, IfOk};
 ghost use Rattle.pm_model.specs.Reviews.{count_held, survey};
+ghost use Rattle.pm_model.specs.RightSet.{right_bits};
 ghost use Rattle.pm_review.specs.Asking.{Accepts, AnswersRights};
 ghost use Rattle.pm_review.specs.Live.{IsLive, AllLive};
 
@@ -17,7 +18,7 @@ const PAIRS_A_PIECE: usize = 4_096;
 /// How many rights are in the set.
 fn size(rights: Rights) -> u64
     ensures size { result ≡ count_ones rights }
-    ensures most { result ≤ 64 }
+    ensures most { result ≤ right_bits }
 {
     u64::from(rights.0.count_ones())
 }

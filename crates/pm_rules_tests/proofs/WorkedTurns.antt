@@ -1,5 +1,5 @@
--- On the worked occasion each action is passed by, and nothing is judged.
-use Rattle.std.proofs.Common.{◌≡◌, ℕ, ◌-◌, List, Ok, option_map, slice_get, refl, zero, suc}
+-- On the worked occasion each action is passed by, and nothing is judged; and that memory was wanting stays so.
+use Rattle.std.proofs.Common.{◌≡◌, ℕ, ◌-◌, ◌||◌, Bool, true, false, List, Ok, option_map, slice_get, refl, zero, suc}
 use Rattle.std.specs.Option.{option_and_then}
 use Rattle.pm_model.specs.Containment.{contained}
 use Rattle.pm_model.specs.State.{opening_graph}
@@ -40,3 +40,13 @@ judged-none first second place (suc (suc n)) m = refl
 
 pub none_judged : (first second : List ℕ) (place : Place) → judged_acted_at (occasion_of first second) opening_graph place ≡ 0
 none_judged first second place = judged-none first second place (place.obligation - 1) (place.action - 1)
+
+-- ---- whether memory was wanting
+
+pub still_short : (short : Bool) → short ≡ (short || false)
+still_short true = refl
+still_short false = refl
+
+pub now_short : (short : Bool) → true ≡ (short || true)
+now_short true = refl
+now_short false = refl

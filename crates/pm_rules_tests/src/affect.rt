@@ -1,7 +1,7 @@
 //! The region of each change, and a small policy by hand: files 3; staff 4 in it; docs 5 in it; memo 6 in docs; ann 7 and bob 8
 //! in staff.
 
-ghost use Rattle.std.specs.Prelude.{◌≡◌, ℕ, Bool, true, false, [], ◌∷◌, IfOk, OnOk, slice_index_or};
+ghost use Rattle.std.specs.Prelude.{◌≡◌, ℕ, Bool, true, false, [], ◌∷◌, IfOk, slice_index_or};
 ghost use Rattle.pm_affect.specs.Affected.{is_in};
 ghost use Rattle.pm_affect.specs.Example.{elements, is_shown, staff_rights, users};
 ghost use Rattle.pm_affect.specs.Lists.{listing};
@@ -129,82 +129,74 @@ fn kept(alloc: Global) -> Result<KeptLists, Memory>
     Ok(lists)
 }
 
-/// Repairs the lists where the rights that staff has on docs have changed so; tells how many questions that asked.
+/// The lists, repaired where the rights that staff has on docs have changed so; that asks so many questions.
 fn repair(
-    lists: &mut KeptLists,
+    rt: &(impl Abort + Alloc<A = Global>),
+    lists: KeptLists,
     region: &Region,
     words: &'static [u64],
     was: Rights,
     now: Rights,
-    alloc: Global,
-) -> Result<u64, Memory>
-    requires given { AreGiven (staff_rights words.now was) elements users lists.old }
-    requires among { AreAmong elements users lists.old }
+    asked: u64,
+) -> Result<KeptLists, Memory>
+    requires given { AreGiven (staff_rights words.now was) elements users lists }
+    requires among { AreAmong elements users lists }
     requires live { (below : ℕ → ℕ → Bool) → RegionLive (record { live = λ n. true; below = below }) region.now }
     requires outside { (u e : ℕ) → is_in (is_shown words.now) region.now u e ≡ false → staff_rights words.now now u e ≡ staff_rights words.now was u e }
-    ensures given { OnOk result (AreGiven (staff_rights words.now now) elements users lists.new) }
-    ensures among { OnOk result (AreAmong elements users lists.new) }
+    ensures given { IfOk result (λ new. AreGiven (staff_rights words.now now) elements users new) }
+    ensures among { IfOk result (λ new. AreAmong elements users new) }
 {
     agreed_right();
-    let elements = places(alloc, &[0, 1, 2, 3, 4, 5, 6, 7, 8])?;
-    let users = places(alloc, &[2, 7, 8])?;
+    let elements = places(rt.alloc(), &[0, 1, 2, 3, 4, 5, 6, 7, 8])?;
+    let users = places(rt.alloc(), &[2, 7, 8])?;
     let mut reach = Words { words };
     let mut judge = Staff {
         words,
         rights: now,
         asked: 0,
     };
-    update(lists, region, &elements, &users, &mut reach, &mut judge)?;
-    Ok(judge.asked)
+    let new = update(lists, region, &elements, &users, &mut reach, &mut judge)?;
+    assert_eq!(rt; judge.asked, asked);
+    Ok(new)
 }
 
-fn lists_are(rt: &impl Abort, lists: &KeptLists, caps: &[Pair], entries: &[Pair]) {
-    let ann = lists.list(&ANN).expect(rt, "the capabilities of ann");
-    assert_eq!(rt; ann.as_slice(), caps);
-    let memo = lists.list(&MEMO).expect(rt, "the entries of memo");
-    assert_eq!(rt; memo.as_slice(), entries);
+fn pairs_are(rt: &impl Abort, lists: &KeptLists, of: &ReviewOf<ElementId>, pairs: &[Pair]) {
+    let list = lists.list(of).expect(rt, "a list");
+    assert_eq!(rt; list.as_slice(), pairs);
+}
+
+/// Both lists are empty.
+fn none_has_rights(rt: &impl Abort, lists: &KeptLists) {
+    pairs_are(rt, lists, &ANN, &[]);
+    pairs_are(rt, lists, &MEMO, &[]);
+}
+
+/// Whoever is in staff has the right of bit 0 on docs.
+fn staff_has_right(rt: &impl Abort, lists: &KeptLists) {
+    pairs_are(rt, lists, &ANN, &[pair(5, 1), pair(6, 1)]);
+    pairs_are(rt, lists, &MEMO, &[pair(7, 1), pair(8, 1)]);
+}
+
+#[test]
+fn an_association_touches_lists(rt: HostRuntime) -> Result<(), Fail> {
+    let lists = kept(rt.alloc())?;
+    let mut reach = Words { words: &WORDS };
+    assert!(rt; touches(&lists, &Region::Between(STAFF, DOCS), &mut reach));
+    assert!(rt; !touches(&lists, &Region::Between(ElementId(2), STAFF), &mut reach));
+    Ok(())
 }
 
 #[test]
 fn an_association_comes_and_goes(rt: HostRuntime) -> Result<(), Fail> {
-    let mut lists = kept(rt.alloc())?;
     let region = Region::Between(STAFF, DOCS);
-    let mut reach = Words { words: &WORDS };
-    assert!(rt; touches(&lists, &region, &mut reach));
-    assert!(rt; !touches(&lists, &Region::Between(ElementId(2), STAFF), &mut reach));
-    let asked = repair(
-        &mut lists,
-        &region,
-        &WORDS,
-        Rights(0),
-        Rights(1),
-        rt.alloc(),
-    )?;
-    assert_eq!(rt; asked, 3);
-    lists_are(
-        &rt,
-        &lists,
-        &[pair(5, 1), pair(6, 1)],
-        &[pair(7, 1), pair(8, 1)],
-    );
+    let lists = kept(rt.alloc())?;
+    let lists = repair(&rt, lists, &region, &WORDS, Rights(0), Rights(1), 3)?;
+    staff_has_right(&rt, &lists);
     let before = lists.copy()?;
-    let asked = repair(
-        &mut lists,
-        &region,
-        &WORDS,
-        Rights(1),
-        Rights(0),
-        rt.alloc(),
-    )?;
-    assert_eq!(rt; asked, 3);
-    assert_eq!(rt; lists.asked(), 6);
-    lists_are(&rt, &lists, &[], &[]);
-    lists_are(
-        &rt,
-        &before,
-        &[pair(5, 1), pair(6, 1)],
-        &[pair(7, 1), pair(8, 1)],
-    );
+    let lists = repair(&rt, lists, &region, &WORDS, Rights(1), Rights(0), 3)?;
+    assert!(rt; lists.asked() == 6);
+    none_has_rights(&rt, &lists);
+    staff_has_right(&rt, &before);
     Ok(())
 }
 
@@ -240,76 +232,65 @@ fn told(region: &Region) -> (&'static str, u32, u32) {
     }
 }
 
-fn region_is(
-    rt: &impl Abort,
-    change: Change,
-    wanted: (&'static str, u32, u32),
-) -> Result<(), Memory> {
-    let region = Region::of(&change, None)?;
+fn region_is(rt: &impl Abort, change: Change, wanted: (&'static str, u32, u32)) {
+    let region = Region::of(&change, None).expect(rt, "memory");
     assert_eq!(rt; told(&region), wanted);
-    Ok(())
+}
+
+const X: ElementId = ElementId(7);
+
+const Y: ElementId = ElementId(4);
+
+#[test]
+fn regions_of_elements(rt: HostRuntime) {
+    let change = Change::Create {
+        id: X,
+        kind: Kind::User,
+        name: Name::new(b"new").expect(&rt, "a name"),
+        into: Some(Y),
+    };
+    region_is(&rt, change, ("one", 7, 0));
+    region_is(&rt, Change::Delete { id: X }, ("one", 7, 0));
+    region_is(&rt, Change::Assign { from: X, to: Y }, ("under", 7, 0));
+    region_is(&rt, Change::Deassign { from: X, to: Y }, ("under", 7, 0));
 }
 
 #[test]
-fn the_region_of_each_change(rt: HostRuntime) -> Result<(), Fail> {
+fn regions_of_rights(rt: HostRuntime) {
+    let change = Change::Associate {
+        ua: Y,
+        rights: Rights(1),
+        at: DOCS,
+    };
+    region_is(&rt, change, ("between", 4, 5));
+    region_is(
+        &rt,
+        Change::Dissociate { ua: Y, at: DOCS },
+        ("between", 4, 5),
+    );
+    let item = bar(&rt, Subject::Ua(Y), rt.alloc()).expect(&rt, "memory");
+    region_is(&rt, Change::Prohibit { item }, ("barred", 4, 1));
+}
+
+#[test]
+fn changes_that_give_no_rights(rt: HostRuntime) {
     let name = Name::new(b"new").expect(&rt, "a name");
-    let (x, y) = (ElementId(7), ElementId(4));
-    let rights = Rights(1);
-    let into = Some(y);
-    let kind = Kind::User;
-    region_is(
-        &rt,
-        Change::Create {
-            id: x,
-            kind,
-            name,
-            into,
-        },
-        ("one", 7, 0),
-    )?;
-    region_is(&rt, Change::Delete { id: x }, ("one", 7, 0))?;
-    region_is(&rt, Change::Assign { from: x, to: y }, ("under", 7, 0))?;
-    region_is(&rt, Change::Deassign { from: x, to: y }, ("under", 7, 0))?;
-    region_is(
-        &rt,
-        Change::Associate {
-            ua: y,
-            rights,
-            at: DOCS,
-        },
-        ("between", 4, 5),
-    )?;
-    region_is(
-        &rt,
-        Change::Dissociate { ua: y, at: DOCS },
-        ("between", 4, 5),
-    )?;
-    let item = bar(&rt, Subject::Ua(y), rt.alloc())?;
-    region_is(&rt, Change::Prohibit { item }, ("barred", 4, 1))?;
-    region_is(&rt, Change::Lift { index: 0 }, ("nothing", 0, 0))?;
-    region_is(&rt, Change::OpenSession { user: x }, ("nothing", 0, 0))?;
-    region_is(&rt, Change::EndProcess { process: 3 }, ("nothing", 0, 0))?;
-    region_is(&rt, Change::DefineRight { name }, ("nothing", 0, 0))?;
-    region_is(&rt, Change::Keep { of: ANN }, ("nothing", 0, 0))?;
-    region_is(&rt, Change::DropReview { review: 0 }, ("nothing", 0, 0))?;
-    Ok(())
+    let nothing = ("nothing", 0, 0);
+    region_is(&rt, Change::Lift { index: 0 }, nothing);
+    region_is(&rt, Change::OpenSession { user: X }, nothing);
+    region_is(&rt, Change::EndProcess { process: 3 }, nothing);
+    region_is(&rt, Change::DefineRight { name }, nothing);
+    region_is(&rt, Change::Keep { of: ANN }, nothing);
+    region_is(&rt, Change::DropReview { review: 0 }, nothing);
 }
 
 #[test]
 fn the_lift_of_a_bar_on_a_process_asks_nothing(rt: HostRuntime) -> Result<(), Fail> {
-    let mut lists = kept(rt.alloc())?;
     let lifted = bar(&rt, Subject::Process(3), rt.alloc())?;
     let region = Region::of(&Change::Lift { index: 0 }, Some(&lifted))?;
     assert_eq!(rt; told(&region), ("barred", 3, 2));
-    let asked = repair(
-        &mut lists,
-        &region,
-        &WORDS,
-        Rights(0),
-        Rights(0),
-        rt.alloc(),
-    )?;
-    assert_eq!(rt; asked, 0);
-    lists_are(&rt, &lists, &[], &[]);
+    let lists = kept(rt.alloc())?;
+    let lists = repair(&rt, lists, &region, &WORDS, Rights(0), Rights(0), 0)?;
+    none_has_rights(&rt, &lists);
     Ok(())
 }

@@ -51,7 +51,7 @@ struct Graph {
     told: &'static [(u32, Option<u32>, u8, u32, Told)],
 }
 
-const GRAPHS: [Graph; 9] = [
+static GRAPHS: &[Graph] = &[
     Graph {
         shows: "one class",
         size: 5,
@@ -545,6 +545,46 @@ fn expected(graph: &Graph, user: u32, process: Option<u32>, right: u8, element: 
     }
 }
 
+fn decision_agrees(
+    rt: &impl Abort,
+    graph: &Graph,
+    lists: &Lists,
+    user: u32,
+    process: Option<u32>,
+    right: u8,
+    element: u32,
+)
+    requires { right < 64 }
+{
+    let Lists {
+        grants,
+        bars,
+        classes,
+    } = lists;
+    let mut reach = Pairs(graph.assigned);
+    let (u, e) = (ElementId(user), ElementId(element));
+    let verdict = decide(&mut reach, grants, bars, classes, u, process, right, e);
+    let told = expected(graph, user, process, right, element);
+    let shows = graph.shows;
+    assert_eq!(rt; plain(verdict), told, "{shows}: {user} {right} {element}");
+}
+
+fn privilege_agrees(
+    rt: &impl Abort,
+    graph: &Graph,
+    lists: &Lists,
+    user: u32,
+    right: u8,
+    element: u32,
+)
+    requires { right < 64 }
+{
+    let mut reach = Pairs(graph.assigned);
+    let (u, e) = (ElementId(user), ElementId(element));
+    let has_right = privilege(&mut reach, &lists.grants, &lists.classes, u, right, e);
+    assert!(rt; has_right == lacking(graph, user, right, element).is_none());
+}
+
 fn decisions_agree_on(
     rt: &impl Abort,
     graph: &Graph,
@@ -553,24 +593,9 @@ fn decisions_agree_on(
     process: Option<u32>,
     element: u32,
 ) {
-    let Lists {
-        grants,
-        bars,
-        classes,
-    } = lists;
-    let mut reach = Pairs(graph.assigned);
-    let (u, e) = (ElementId(user), ElementId(element));
     for right in RIGHTS {
-        let told = expected(graph, user, process, right, element);
-        let verdict = decide(&mut reach, grants, bars, classes, u, process, right, e);
-        assert_eq!(rt;
-            plain(verdict),
-            told,
-            "{}: {user} {right} {element}",
-            graph.shows
-        );
-        let has_right = privilege(&mut reach, grants, classes, u, right, e);
-        assert_eq!(rt; has_right, lacking(graph, user, right, element).is_none());
+        decision_agrees(rt, graph, lists, user, process, right, element);
+        privilege_agrees(rt, graph, lists, user, right, element);
     }
 }
 
@@ -593,7 +618,8 @@ fn rights_agree_on(rt: &impl Abort, graph: &Graph, lists: &Lists, user: u32, ele
     let told = expected_rights(graph, user, element);
     let (u, e) = (ElementId(user), ElementId(element));
     let rights = rights_of(&mut Pairs(graph.assigned), grants, bars, classes, u, e);
-    assert_eq!(rt; rights, told, "{}: {user} {element}", graph.shows);
+    let shows = graph.shows;
+    assert_eq!(rt; rights, told, "{shows}: {user} {element}");
 }
 
 fn agrees(rt: &(impl Abort + Alloc<A = Global>), graph: &Graph) -> Result<(), Fail> {
@@ -611,18 +637,25 @@ fn agrees(rt: &(impl Abort + Alloc<A = Global>), graph: &Graph) -> Result<(), Fa
 
 #[test]
 fn decisions_agree_with_a_plain_program(rt: HostRuntime) -> Result<(), Fail> {
-    for graph in &GRAPHS {
+    for graph in GRAPHS {
         agrees(&rt, graph)?;
     }
     Ok(())
 }
 
+// What was worked out by hand is expected.
+fn is_expected(rt: &impl Abort, graph: &Graph, row: &(u32, Option<u32>, u8, u32, Told)) {
+    let (user, process, right, element, verdict) = row;
+    let told = expected(graph, *user, *process, *right, *element);
+    let shows = graph.shows;
+    assert_eq!(rt; told, *verdict, "{shows}: {user} {right} {element}");
+}
+
 #[test]
 fn verdicts_are_those_worked_out(rt: HostRuntime) {
-    for graph in &GRAPHS {
-        for (user, process, right, element, verdict) in graph.told {
-            let told = expected(graph, *user, *process, *right, *element);
-            assert_eq!(rt; told, *verdict, "{}: {user} {right} {element}", graph.shows);
+    for graph in GRAPHS {
+        for row in graph.told {
+            is_expected(&rt, graph, row);
         }
     }
 }

@@ -3,8 +3,8 @@
 ghost use Rattle.std.specs.Prelude.{◌≡◌, ◌-◌, IfOk};
 
 use pm_model::{
-    Changed, CountList, ElementId, Judge, Memory, Name, NameOf, Pair, PairList, PlaceList, Rights,
-    UserList,
+    ChangeList, Changed, CountList, ElementId, Judge, Memory, Name, NameOf, Pair, PairList,
+    PlaceList, Rights, UserList,
 };
 use pm_review::{bulk, capabilities, changes, changes_of_rights, entries};
 use std::alloc::Global;
@@ -55,13 +55,17 @@ fn pair(element: u32, rights: u64) -> Pair
     }
 }
 
+fn pairs_are(rt: &impl Abort, list: &PairList, want: &[Pair]) {
+    assert_eq!(rt; list.as_slice(), want);
+}
+
 #[test]
 fn elements_on_which_a_user_has_rights(rt: HostRuntime) -> Result<(), Fail> {
     let mut judge = Difference { asked: 0 };
     let elements = places(rt.alloc(), &[2, 4, 5, 11])?;
     let list = capabilities(&mut judge, &elements, ElementId(4))?;
-    assert_eq!(rt; list.as_slice(), [pair(5, 1), pair(11, 7)].as_slice());
-    assert_eq!(rt; judge.asked, 4);
+    pairs_are(&rt, &list, &[pair(5, 1), pair(11, 7)]);
+    assert!(rt; judge.asked == 4);
     Ok(())
 }
 
@@ -70,8 +74,8 @@ fn users_who_have_rights_on_an_element(rt: HostRuntime) -> Result<(), Fail> {
     let mut judge = Difference { asked: 7 };
     let users = places(rt.alloc(), &[1, 4, 7])?;
     let list = entries(&mut judge, &users, ElementId(5))?;
-    assert_eq!(rt; list.as_slice(), [pair(1, 4), pair(4, 1)].as_slice());
-    assert_eq!(rt; judge.asked, 10);
+    pairs_are(&rt, &list, &[pair(1, 4), pair(4, 1)]);
+    assert!(rt; judge.asked == 10);
     Ok(())
 }
 
@@ -87,27 +91,43 @@ fn counts_of(
     bulk(rt, &judge, ask, elements, users)
 }
 
+fn counts_are(rt: &impl Abort, counts: &CountList, want: &[u64]) {
+    assert_eq!(rt; counts.as_slice(), want);
+}
+
 #[test]
 fn rights_of_several_users_are_counted(rt: HostRuntime) -> Result<(), Fail> {
     let elements = places(rt.alloc(), &[2, 4, 5, 11])?;
     let users = places(rt.alloc(), &[4, 7, 2])?;
     let counts = counts_of(&rt, &elements, &users)?;
-    assert_eq!(rt; counts.as_slice(), [4, 1, 5].as_slice());
-    let none = counts_of(&rt, &elements, &UserList::new(rt.alloc()))?;
-    assert_eq!(rt; none.len(), 0);
+    counts_are(&rt, &counts, &[4, 1, 5]);
     Ok(())
+}
+
+#[test]
+fn rights_of_no_user_are_counted(rt: HostRuntime) -> Result<(), Fail> {
+    let elements = places(rt.alloc(), &[2, 4, 5, 11])?;
+    let none = counts_of(&rt, &elements, &UserList::new(rt.alloc()))?;
+    assert!(rt; none.len() == 0);
+    Ok(())
+}
+
+/// The numbers below this one.
+fn places_below(alloc: Global, count: u32) -> Result<PlaceList, Memory> {
+    let mut list = PlaceList::new(alloc);
+    for number in 0..count {
+        list.push(ElementId(number))?;
+    }
+    Ok(list)
 }
 
 /// The numbers up to 4,095 have 24,576 ones in base 2, twelve of them in 4,095.
 #[test]
 fn many_pairs_are_counted_by_many_threads(rt: HostRuntime) -> Result<(), Fail> {
-    let mut elements = PlaceList::new(rt.alloc());
-    for number in 0..4_096 {
-        elements.push(ElementId(number))?;
-    }
+    let elements = places_below(rt.alloc(), 4_096)?;
     let users = places(rt.alloc(), &[0, 4_096, 1, 4_094])?;
     let counts = counts_of(&rt, &elements, &users)?;
-    assert_eq!(rt; counts.as_slice(), [24_576, 0, 24_564, 1].as_slice());
+    counts_are(&rt, &counts, &[24_576, 0, 24_564, 1]);
     Ok(())
 }
 
@@ -156,47 +176,58 @@ fn change(name: Name, old: u64, new: u64) -> Changed {
     }
 }
 
+fn changes_are(rt: &impl Abort, list: &ChangeList, want: &[Changed]) {
+    assert!(rt; list.as_slice() == want);
+}
+
+/// Number 5 has this name.
+fn names_with(rt: &impl Abort, fifth: &str) -> Names {
+    Names {
+        fifth: named(rt, fifth),
+        other: named(rt, "other"),
+    }
+}
+
 #[test]
 fn what_differs_between_two_lists(rt: HostRuntime) -> Result<(), Fail> {
-    let (was, is, other) = (named(&rt, "was"), named(&rt, "is"), named(&rt, "other"));
-    let before = Names { fifth: was, other };
-    let after = Names { fifth: is, other };
-    let old = list_of(
-        rt.alloc(),
-        &[pair(3, 1), pair(4, 3), pair(5, 1), pair(9, 7)],
-    )?;
-    let new = list_of(
-        rt.alloc(),
-        &[pair(2, 8), pair(4, 1), pair(5, 1), pair(9, 7)],
-    )?;
+    let (before, after) = (names_with(&rt, "was"), names_with(&rt, "is"));
+    let was = [pair(3, 1), pair(4, 3), pair(5, 1), pair(9, 7)];
+    let old = list_of(rt.alloc(), &was)?;
+    let is = [pair(2, 8), pair(4, 1), pair(5, 1), pair(9, 7)];
+    let new = list_of(rt.alloc(), &is)?;
     let list = changes(&before, &after, &old, &new)?;
-    let wanted = [
-        change(other, 0, 8),
-        change(other, 1, 0),
-        change(other, 3, 1),
-        change(was, 1, 0),
-        change(is, 0, 1),
+    let want = [
+        change(before.other, 0, 8),
+        change(before.other, 1, 0),
+        change(before.other, 3, 1),
+        change(before.fifth, 1, 0),
+        change(after.fifth, 0, 1),
     ];
-    assert!(rt; list.as_slice() == wanted.as_slice());
-    let none = changes(&after, &after, &new, &new)?;
-    assert_eq!(rt; none.len(), 0);
+    changes_are(&rt, &list, &want);
+    Ok(())
+}
+
+#[test]
+fn nothing_differs_between_a_list_and_itself(rt: HostRuntime) -> Result<(), Fail> {
+    let names = names_with(&rt, "is");
+    let pairs = [pair(2, 8), pair(4, 1), pair(5, 1), pair(9, 7)];
+    let list = list_of(rt.alloc(), &pairs)?;
+    let none = changes(&names, &names, &list, &list)?;
+    assert!(rt; none.len() == 0);
     Ok(())
 }
 
 #[test]
 fn what_differs_where_names_stay(rt: HostRuntime) -> Result<(), Fail> {
-    let names = Names {
-        fifth: named(&rt, "fifth"),
-        other: named(&rt, "other"),
-    };
+    let names = names_with(&rt, "fifth");
     let old = list_of(rt.alloc(), &[pair(3, 1), pair(5, 1), pair(9, 7)])?;
     let new = list_of(rt.alloc(), &[pair(2, 8), pair(5, 3), pair(9, 7)])?;
     let list = changes_of_rights(&names, &names, &old, &new)?;
-    let wanted = [
+    let want = [
         change(names.other, 0, 8),
         change(names.other, 1, 0),
         change(names.fifth, 1, 3),
     ];
-    assert!(rt; list.as_slice() == wanted.as_slice());
+    changes_are(&rt, &list, &want);
     Ok(())
 }

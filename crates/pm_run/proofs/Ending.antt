@@ -1,5 +1,5 @@
 -- How a run ends.
-use Rattle.std.proofs.Common.{◌≡◌, ◌<◌, ℕ, List, [], ◌∷◌, ◌++◌, length, take, ◌≤◌, ◌+◌, Result, Ok, Err, IfErr, Option, None, Some, refl, sym, ◌∙◌, ap, subst, arith, length-append, false, true, nat_lt}
+use Rattle.std.proofs.Common.{◌≡◌, ◌<◌, ℕ, List, [], ◌∷◌, ◌++◌, length, take, ◌≤◌, Result, Ok, Err, IfErr, Option, None, Some, refl, sym, ◌∙◌, ap, subst, arith, length-append, false, true, nat_lt}
 use Rattle.std.proofs.lemmas.List.{append-nil}
 use Rattle.std.proofs.lemmas.Bool.{le-ltb, lt-ltb}
 use Rattle.std.proofs.Math.Seq.{take-append_seam}

@@ -12,9 +12,10 @@ ghost use Rattle.pm_run.specs.Wrote.{Wrote, WroteWhole, WrotePart, Moved, Answer
 ghost use Rattle.pm_run.specs.Coming.{coming, ahead};
 ghost use Rattle.pm_run.specs.Parts.{next_asked, HasStopCause};
 
-use pm_json::{LONGEST_REPLY, read_request};
 use pm_machine::Answerer;
 use pm_model::{Asked, BadLine, Failed, LineEvent, Memory, Sink, What};
+use pm_print::LONGEST_REPLY;
+use pm_read::read_request;
 use pm_session::Session;
 use std::alloc::Global;
 use std::thread::Threads;

@@ -11,9 +11,9 @@ ghost use Rattle.pm_run.specs.Ran.{Ran, IsComplete};
 
 use crate::lines::{Stop, answer_lines};
 use crate::statuses::Status;
-use pm_json::LONGEST_REPLY;
 use pm_machine::Answerer;
 use pm_model::{Sink, Source};
+use pm_print::LONGEST_REPLY;
 use pm_session::Session;
 use std::alloc::Global;
 use std::thread::Threads;

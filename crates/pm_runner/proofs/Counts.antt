@@ -1,5 +1,5 @@
 -- How many rights are judged, an action and an obligation at a time.
-use Rattle.std.proofs.Common.{◌≡◌, ℕ, ◌+◌, ◌<◌, List, [], ◌∷◌, ◌++◌, length, take, Some, slice_get, Result, Ok, Err, refl, ◌∙◌, arith}
+use Rattle.std.proofs.Common.{◌≡◌, ℕ, ◌+◌, ◌<◌, List, [], ◌∷◌, ◌++◌, length, take, Some, slice_get, Result, Ok, Err, refl, sym, ◌∙◌, ap, arith}
 use Rattle.std.proofs.lemmas.Option.{slice_get_within}
 use Rattle.std.proofs.lemmas.List.{length-take-le}
 use Rattle.pm_model.specs.Results.{and_then}
@@ -10,7 +10,7 @@ use Rattle.pm_model.specs.declared.actions.Action.{Action}
 use Rattle.pm_model.specs.declared.obligations.Obligation.{Obligation}
 use Rattle.pm_model.specs.declared.replies.Refusal.{Refusal}
 use Rattle.pm_affect.specs.Counting.{capped, count_on, judged_acted, judged_response_from, judged_responses_from}
-use Rattle.pm_affect.proofs.Counting.{capped-more, count-none}
+use Rattle.pm_affect.proofs.Counting.{capped-more, count-none, response-more, responses-more}
 use Rattle.pm_runner.specs.Turns.{Occasion, responded_by, obliged, judged_acted_at, judged_obliged, judged_responded_by}
 use Rattle.pm_runner.proofs.Places.{take-item, item-there}
 use Rattle.pm_runner.proofs.Steps.{place_of, standing-is}
@@ -31,9 +31,12 @@ module _ (names : EventNames) (version : ℕ) where
       + count_on (response_from names version o place number G xs) (λ between. judged_response_from names version o place n between ys)
   response-count o place [] ys number n G e = let same : n ≡ number = omega arith in rw same (omega arith)
   response-count o place (x ∷ xs) ys number n G e =
-      acted-count o number (judged_acted names version G o.author (record { obligation = place; action = number }) x) _ _ _ _
+      response-more names version o place number G x (xs ++ ys)
+      ∙ acted-count o number (judged_acted names version G o.author (record { obligation = place; action = number }) x) _ _ _ _
       (λ next. response-count o place xs ys (number + 1) n next (omega arith))
       (acted names version G o.author (record { obligation = place; action = number }) x)
+      ∙ ap (λ count. count + count_on (response_from names version o place number G (x ∷ xs)) (λ between. judged_response_from names version o place n between ys))
+      (sym (response-more names version o place number G x xs))
 
   -- behind an obligation
   obliged-count : (a : ℕ) (whole part : Graph → ℕ) (made : Graph → Result Graph Stopped) (last : Graph → ℕ) →
@@ -48,9 +51,12 @@ module _ (names : EventNames) (version : ℕ) where
       + count_on (responses_from names version place G xs) (λ between. judged_responses_from names version n between ys)
   responses-count [] ys place n G e = let same : n ≡ place = omega arith in rw same (omega arith)
   responses-count (x ∷ xs) ys place n G e =
-      obliged-count (judged_response_from names version x place 1 G x.response) _ _ _ _
+      responses-more names version place G x (xs ++ ys)
+      ∙ obliged-count (judged_response_from names version x place 1 G x.response) _ _ _ _
       (λ next. responses-count xs ys (place + 1) n next (omega arith))
       (response_from names version x place 1 G x.response)
+      ∙ ap (λ count. count + count_on (responses_from names version place G (x ∷ xs)) (λ between. judged_responses_from names version n between ys))
+      (sym (responses-more names version place G x xs))
 
 -- a count so far, one step more
 more : (old now next sum step whole : ℕ) → capped now ≡ capped (old + sum) → capped next ≡ capped (now + step) → whole ≡ sum + step →
@@ -70,8 +76,9 @@ action-counted occasion o index i start G below is made =
     let step = acted occasion.names occasion.version G o.author (place_of index i) there.0 in
     let counted = judged_acted occasion.names occasion.version G o.author (place_of index i) there.0 in
     let none = count-none step in
-    let alone : judged_obliged occasion o (index + 1) start (take i o.response) + (counted + count_on step (λ next. 0))
-    ≡ judged_obliged occasion o (index + 1) start (take i o.response) + counted = omega (arith, none) in
+    let one = response-more occasion.names occasion.version o (index + 1) (i + 1) G there.0 [] in
+    let alone : judged_obliged occasion o (index + 1) start (take i o.response) + judged_response_from occasion.names occasion.version o (index + 1) (i + 1) G (there.0 ∷ [])
+    ≡ judged_obliged occasion o (index + 1) start (take i o.response) + counted = omega (arith, none, one) in
     rw (take-item o.response i there.0 there.1, standing-is occasion.obligations index i o there.0 is there.1)
     (response-count occasion.names occasion.version o (index + 1) (take i o.response) (there.0 ∷ []) 1 (i + 1) start (omega (arith, few))
     ∙ rw made alone)
@@ -97,8 +104,9 @@ obligation-counted occasion i start G o is made =
     let step = response_from occasion.names occasion.version o (i + 1) 1 G o.response in
     let counted = judged_obliged occasion o (i + 1) G o.response in
     let none = count-none step in
-    let alone : judged_responded_by occasion start (take i occasion.obligations) + (counted + count_on step (λ next. 0))
-    ≡ judged_responded_by occasion start (take i occasion.obligations) + counted = omega (arith, none) in
+    let one = responses-more occasion.names occasion.version (i + 1) G o [] in
+    let alone : judged_responded_by occasion start (take i occasion.obligations) + judged_responses_from occasion.names occasion.version (i + 1) G (o ∷ [])
+    ≡ judged_responded_by occasion start (take i occasion.obligations) + counted = omega (arith, none, one) in
     rw (take-item occasion.obligations i o is)
     (responses-count occasion.names occasion.version (take i occasion.obligations) (o ∷ []) 1 (i + 1) start (omega (arith, few))
     ∙ rw made alone)

@@ -4,7 +4,7 @@ use Rattle.std.proofs.Math.Dec.{leb}
 use Rattle.std.proofs.Math.Seq.{take-suc}
 use Rattle.std.proofs.lemmas.Bool.{eqb-true, eqb-false}
 use Rattle.std.proofs.lemmas.Bool.Decides.{leb_tells}
-use Rattle.std.proofs.lemmas.Option.{slice_get_within, get_or_from_slice_get, slice_get-map, slice_get_cases}
+use Rattle.std.proofs.lemmas.Option.{same_Some, slice_get_within, get_or_from_slice_get, slice_get-map, slice_get_cases}
 use Rattle.std.proofs.lemmas.List.{map-append, append-nil, length-append, length-map, length-take-le}
 use Rattle.std.proofs.lemmas.List.Elements.{All-nil, All-cons, All-append, All-get_or, filter-append}
 use Rattle.std.proofs.lemmas.List.Edits.{remove-append_left, remove-append_right}
@@ -85,6 +85,25 @@ none-passes p x xs none = of (p x) refl where
   of : (b : Bool) → p x ≡ b → (p x ≡ false) × (filter p xs ≡ [])
   of true is = absurd (let some : x ∷ filter p xs ≡ [] = rw is at none in cc)
   of false is = (is, rw is at none)
+
+-- and so the one at a place fails
+fails-at : {X : Type 0} (p : X → Bool) (xs : List X) (i : ℕ) (x : X) → slice_get xs i ≡ Some x → filter p xs ≡ [] → p x ≡ false
+fails-at p [] i x is none = absurd (cc)
+fails-at p (y ∷ ys) zero x is none = ap p (sym (same_Some y x is)) ∙ (none-passes p y ys none).0
+fails-at p (y ∷ ys) (suc i) x is none = fails-at p ys i x is (none-passes p y ys none).1
+
+fails-beside : {X : Type 0} (p : X → Bool) (xs : List X) (k i : ℕ) (x : X) → slice_get xs i ≡ Some x → ¬ (k ≡ i) → filter p (remove xs k) ≡ [] → p x ≡ false
+fails-beside p [] k i x is other none = absurd (cc)
+fails-beside p (y ∷ ys) zero zero x is other none = absurd (other refl)
+fails-beside p (y ∷ ys) zero (suc i) x is other none = fails-at p ys i x is none
+fails-beside p (y ∷ ys) (suc k) zero x is other none = ap p (sym (same_Some y x is)) ∙ (none-passes p y (remove ys k) none).0
+fails-beside p (y ∷ ys) (suc k) (suc i) x is other none =
+    fails-beside p ys k i x is (λ same. other (ap suc same)) (none-passes p y (remove ys k) none).1
+
+pub fails-left : {X : Type 0} (p : X → Bool) (w : Option ℕ) (xs : List X) (i : ℕ) (x : X) → slice_get xs i ≡ Some x → is_at w i ≡ false →
+    filter p (without w xs) ≡ [] → p x ≡ false
+fails-left p None xs i x is other none = fails-at p xs i x is none
+fails-left p (Some k) xs i x is other none = fails-beside p xs k i x is (eqb-false k i other) none
 
 filter-without : {X : Type 0} (p : X → Bool) (xs : List X) (i : ℕ) → filter p xs ≡ [] → filter p (remove xs i) ≡ []
 filter-without p [] zero none = refl

@@ -1,5 +1,5 @@
 -- Responses, an action and an obligation at a time.
-use Rattle.std.proofs.Common.{◌≡◌, ℕ, ◌+◌, ◌-◌, ◌<◌, ◌≤◌, List, [], ◌∷◌, ◌++◌, length, take, drop, Option, None, Some, option_map, slice_get, Result, Ok, Err, refl, sym, ◌∙◌, ap, subst, arith}
+use Rattle.std.proofs.Common.{◌≡◌, ℕ, ◌+◌, ◌-◌, ◌<◌, ◌≤◌, List, [], ◌∷◌, ◌++◌, length, take, drop, Option, None, Some, option_map, slice_get, Result, Ok, Err, refl, sym, ◌∙◌, ap, subst, inl, inr, arith}
 use Rattle.std.proofs.lemmas.Option.{slice_get_within, same_Some}
 use Rattle.std.proofs.lemmas.List.{take-append-drop, length-take-le}
 use Rattle.pm_model.proofs.Walks.{drop-item}
@@ -11,8 +11,10 @@ use Rattle.pm_model.specs.declared.actions.Action.{Action}
 use Rattle.pm_model.specs.declared.obligations.Obligation.{Obligation}
 use Rattle.pm_model.specs.declared.obligations.Place.{Place}
 use Rattle.pm_model.specs.declared.replies.Refusal.{Refusal}
-use Rattle.pm_runner.specs.Turns.{Occasion, responded, responded_by, obliged, standing, acted_at, acted_or_stopped, IsTurn, IsDue}
-use Rattle.pm_runner.specs.Outcomes.{IsStop}
+use Rattle.pm_runner.specs.Turns.{Occasion, responded, responded_by, obliged, standing, acted_at, acted_or_stopped, IsTurn, IsDue, IsPartOf, IsPartway}
+use Rattle.pm_runner.specs.Outcomes.{IsLeft, IsStop, MayBeDone}
+use Rattle.pm_runner.specs.declared.errors.ActError.{ActError}
+use Rattle.pm_runner.specs.declared.errors.ActError.TheVariants as act
 use Rattle.pm_runner.specs.declared.errors.RunError.{RunError}
 use Rattle.pm_runner.specs.declared.errors.RunError.TheVariants as run
 use Rattle.pm_runner.proofs.Places.{take-item, item-there}
@@ -257,3 +259,35 @@ pub stop-of : (inner outer : Result Graph Stopped) (e : RunError) → ((stopped 
     IsStop inner e → IsStop outer e
 stop-of inner outer (run.ResponseRefused obligation action why) stops told = stops _ told
 stop-of inner outer run.Memory stops told = tt
+
+-- ---- what is left after an error
+
+-- after an action's
+pub left-by : (names : EventNames) (version : ℕ) (o : Obligation) (number : ℕ) (G H : Graph) (acted : Result Graph Refusal) (e : ActError) →
+    IsLeft G H acted e → MayBeDone G H (or_stopped names version o number acted)
+left-by names version o number G H acted (act.Refused why) left = inl left
+left-by names version o number G H acted act.Memory (inl as_before) = inl as_before
+left-by names version o number G H acted act.Memory (inr done) = inr (ap (or_stopped names version o number) done)
+
+-- the actions that have made the graph, and one more or not
+pub part-left : (occasion : Occasion) (o : Obligation) (index i : ℕ) (start G H : Graph) → i < length o.response →
+    slice_get occasion.obligations index ≡ Some o →
+    obliged occasion o (index + 1) start (take i o.response) ≡ Ok G →
+    MayBeDone G H (acted_or_stopped occasion G (place_of index i) o) → IsPartOf occasion o index start H
+part-left occasion o index i start G H below is made (inl as_before) = record { count = i; made = made ∙ ap Ok (sym as_before) }
+part-left occasion o index i start G H below is made (inr done) =
+    record { count = i + 1; made = act-done occasion o index i start G H below is made done }
+
+-- the responses that have made the graph, and some actions of the next one
+pub run-left : (occasion now : Occasion) (i : ℕ) (start G H : Graph) (o : Obligation) → now ≡ occasion → slice_get occasion.obligations i ≡ Some o →
+    responded_by occasion start (take i occasion.obligations) ≡ Ok G → IsPartOf now o i G H → IsPartway occasion start H
+run-left occasion now i start G H o same is made part =
+    let first : i + 1 - 1 ≡ i = omega arith in
+    let second : part.count + 1 - 1 ≡ part.count = omega arith in
+    record {
+      obligation = o;
+      place = place_of i part.count;
+      from_one = (omega arith, omega arith);
+      stands = rw first is;
+      made = rw (first, second, made, ← same) part.made;
+    }

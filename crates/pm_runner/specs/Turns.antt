@@ -1,5 +1,5 @@
 -- The responses on one occasion, an action at a time.
-use Rattle.std.specs.Prelude.{◌≡◌, ℕ, ◌-◌, ◌<◌, List, take, Option, None, Some, option_map, slice_get, Result, Ok}
+use Rattle.std.specs.Prelude.{◌≡◌, ℕ, ◌+◌, ◌-◌, ◌<◌, List, take, Option, None, Some, option_map, slice_get, Result, Ok}
 use Rattle.std.specs.Option.{option_and_then}
 use Rattle.pm_model.specs.Results.{and_then}
 use Rattle.pm_model.specs.State.{Graph}
@@ -71,6 +71,21 @@ pub record IsDue (occasion : Occasion) (G : Graph) (index : ℕ) (o : Obligation
 -- what the action at a place of an obligation makes of a graph, told with the obligation and the number where it is refused
 abbrev pub acted_or_stopped : Occasion → Graph → Place → Obligation → Result Graph Stopped
 acted_or_stopped occasion G place o = or_stopped occasion.names occasion.version o place.action (acted_at occasion G place)
+
+-- ---- a part of the responses
+
+-- the first actions of the obligation at a place from 0, in order, have made H of G, and no others
+pub record IsPartOf (occasion : Occasion) (o : Obligation) (index : ℕ) (G H : Graph) : Type 0 where
+  pub count : ℕ
+  pub made : obliged occasion o (index + 1) G (take count o.response) ≡ Ok H
+
+-- the first actions of all, in order, have made H of G, and no others: those before a place of an obligation that responds
+pub record IsPartway (occasion : Occasion) (G H : Graph) : Type 0 where
+  pub obligation : Obligation
+  pub place : Place
+  pub from_one : (0 < place.obligation) × (0 < place.action)
+  pub stands : slice_get occasion.obligations (place.obligation - 1) ≡ Some obligation
+  pub made : acted_before occasion G place obligation ≡ Ok H
 
 -- ---- how many rights are judged for kept reviews
 

@@ -1,11 +1,11 @@
 //! What a run of responses asks of a machine.
 
-ghost use Rattle.std.specs.Prelude.{◌≡◌, ◌+◌, ℕ, List, OnOk, IfErr, Ok};
+ghost use Rattle.std.specs.Prelude.{◌≡◌, ◌+◌, ◌||◌, ℕ, Bool, List, OnOk, IfErr, Ok};
 ghost use Rattle.pm_model.specs.State.{Graph};
 ghost use Rattle.pm_model.specs.declared.requests.Entry.{Entry};
 ghost use Rattle.pm_affect.specs.Counting.{capped};
 ghost use Rattle.pm_runner.specs.Turns.{Occasion, IsTurn, acted_at, judged_acted_at};
-ghost use Rattle.pm_runner.specs.Outcomes.{IsRefusal};
+ghost use Rattle.pm_runner.specs.Outcomes.{IsLeft, IsRefusal, wants_memory};
 
 use crate::errors::ActError;
 use pm_model::Place;
@@ -24,14 +24,19 @@ pub trait Acts {
     /// How many rights it has judged for kept reviews, up to 2^64 - 1.
     ghost judged: { Self → ℕ };
 
+    /// Whether memory was wanting for an action.
+    ghost short: { Self → Bool };
+
     /// Does the action at the place, whose turn it is, by the authority of its obligation's author; where a guard
-    /// fails there is nothing to do. The place counts among the obligations of the occasion. After an error nothing
-    /// is said of the graph.
+    /// fails there is nothing to do. The place counts among the obligations of the occasion. Where it is refused the
+    /// graph is as before; after want of memory it is so, or the action is done.
     fn act(&mut self, place: Place) -> Result<(), ActError>
         requires { IsTurn (occasion self.old) (graph self.old) place }
         ensures ok { OnOk result (acted_at (occasion self.old) (graph self.old) place ≡ Ok (graph self.new)) }
         ensures refused { IfErr result (IsRefusal (acted_at (occasion self.old) (graph self.old) place)) }
         ensures same { occasion self.new ≡ occasion self.old }
         ensures history { history self.new ≡ history self.old }
-        ensures judged { OnOk result (capped (judged self.new) ≡ capped (judged self.old + judged_acted_at (occasion self.old) (graph self.old) place)) };
+        ensures judged { OnOk result (capped (judged self.new) ≡ capped (judged self.old + judged_acted_at (occasion self.old) (graph self.old) place)) }
+        ensures short { short self.new ≡ (short self.old || wants_memory result) }
+        ensures err { IfErr result (IsLeft (graph self.old) (graph self.new) (acted_at (occasion self.old) (graph self.old) place)) };
 }

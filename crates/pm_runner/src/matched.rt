@@ -1,6 +1,6 @@
 //! Which obligations match an event.
 
-ghost use Rattle.std.specs.Prelude.{◌≡◌, ◌<◌, ◌≤◌, ℕ, Bool, true, false, List, [], Option, length, nat_lt, All, IfOk, IsTrue};
+ghost use Rattle.std.specs.Prelude.{◌≡◌, ◌<◌, ◌≤◌, ℕ, Bool, true, false, List, [], Option, length, nat_lt, All, IfOk, IsOk, IsTrue};
 ghost use Rattle.std.specs.List.{list_any, remove};
 ghost use Rattle.pm_model.specs.Obligations.{is_in_given, matching, max_obligations};
 ghost use Rattle.pm_model.specs.declared.obligations.Obligation.{Obligation};
@@ -39,6 +39,7 @@ fn places_of<R: Reach>(
     ensures places { IfOk result (λ places. StandAt obligations.now.items places (matching (R.relation reach.old).below (without left_out obligations.now.items) event.now)) }
     ensures below { IfOk result (λ places. All (λ place. place < length obligations.now.items) places) }
     ensures few { IfOk result (λ places. length places ≤ max_obligations) }
+    ensures free { matching (R.relation reach.old).below (without left_out obligations.now.items) event.now ≡ [] → IsOk result }
     ensures same { R.relation reach.new ≡ R.relation reach.old }
 {
     if !may_match(obligations, event, reach) {
@@ -60,7 +61,7 @@ fn places_of<R: Reach>(
 /// The places of the obligations that match the event, in order of creation.
 ///
 /// Where none may match by operations and targets, no obligation is looked at. Else each costs what its pattern does.
-/// Memory is taken only for the list of places.
+/// Memory is taken only for the list of places, and none where no obligation matches.
 pub fn matching<R: Reach>(
     alloc: Global,
     obligations: &Obligations,
@@ -72,12 +73,14 @@ pub fn matching<R: Reach>(
     ensures places { IfOk result (λ places. StandAt obligations.now.items places (matching (R.relation reach.old).below obligations.now.items event.now)) }
     ensures below { IfOk result (λ places. All (λ place. place < length obligations.now.items) places) }
     ensures few { IfOk result (λ places. length places ≤ max_obligations) }
+    ensures free { matching (R.relation reach.old).below obligations.now.items event.now ≡ [] → IsOk result }
     ensures same { R.relation reach.new ≡ R.relation reach.old }
 {
     places_of(alloc, obligations, event, reach, None)
 }
 
-/// The places, in the whole list, of the obligations that match the event without the one at this place.
+/// The places, in the whole list, of the obligations that match the event without the one at this place. Where none of
+/// them does, no memory is taken.
 pub fn matching_without<R: Reach>(
     alloc: Global,
     obligations: &Obligations,
@@ -90,6 +93,7 @@ pub fn matching_without<R: Reach>(
     ensures places { IfOk result (λ places. StandAt obligations.now.items places (matching (R.relation reach.old).below (remove obligations.now.items index) event.now)) }
     ensures below { IfOk result (λ places. All (λ place. place < length obligations.now.items) places) }
     ensures few { IfOk result (λ places. length places ≤ max_obligations) }
+    ensures free { matching (R.relation reach.old).below (remove obligations.now.items index) event.now ≡ [] → IsOk result }
     ensures same { R.relation reach.new ≡ R.relation reach.old }
 {
     places_of(alloc, obligations, event, reach, Some(index))

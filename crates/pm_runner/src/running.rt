@@ -1,11 +1,11 @@
 //! The responses to an event, one action after another.
 
-ghost use Rattle.std.specs.Prelude.{◌≡◌, ◌+◌, ◌<◌, ◌≤◌, length, All, OnOk, IfErr, Ok};
+ghost use Rattle.std.specs.Prelude.{◌≡◌, ◌+◌, ◌<◌, ◌≤◌, ◌||◌, length, All, OnOk, OnErr, IfErr, IsOk, Ok};
 ghost use Rattle.pm_model.specs.Obligations.{max_obligations};
 ghost use Rattle.pm_runner.specs.Standing.{StandAt};
 ghost use Rattle.pm_affect.specs.Counting.{capped};
-ghost use Rattle.pm_runner.specs.Turns.{IsTurn, IsDue, acted_or_stopped, judged_acted_at, judged_obliged, judged_responded, obliged, responded};
-ghost use Rattle.pm_runner.specs.Outcomes.{IsStop};
+ghost use Rattle.pm_runner.specs.Turns.{IsTurn, IsDue, IsPartOf, IsPartway, acted_or_stopped, judged_acted_at, judged_obliged, judged_responded, obliged, responded};
+ghost use Rattle.pm_runner.specs.Outcomes.{IsStop, MayBeDone, run_wants_memory};
 
 use crate::acts::Acts;
 use crate::errors::{ActError, RunError};
@@ -21,6 +21,8 @@ fn act_at<A: Acts>(acts: &mut A, obligation: &Obligation, place: Place) -> Resul
     ensures same { A.occasion acts.new ≡ A.occasion acts.old }
     ensures history { A.history acts.new ≡ A.history acts.old }
     ensures judged { OnOk result (capped (A.judged acts.new) ≡ capped (A.judged acts.old + judged_acted_at (A.occasion acts.old) (A.graph acts.old) place)) }
+    ensures short { A.short acts.new ≡ (A.short acts.old || run_wants_memory result) }
+    ensures err { OnErr result (MayBeDone (A.graph acts.old) (A.graph acts.new) (acted_or_stopped (A.occasion acts.old) (A.graph acts.old) place obligation.now)) }
 {
     match acts.act(place) {
         Ok(()) => Ok(()),
@@ -46,6 +48,8 @@ fn run_obligation<A: Acts>(
     ensures same { A.occasion acts.new ≡ A.occasion acts.old }
     ensures history { A.history acts.new ≡ A.history acts.old }
     ensures judged { OnOk result (capped (A.judged acts.new) ≡ capped (A.judged acts.old + judged_obliged (A.occasion acts.old) obligation.now (index + 1) (A.graph acts.old) obligation.now.response)) }
+    ensures short { A.short acts.new ≡ (A.short acts.old || run_wants_memory result) }
+    ensures err { OnErr result (IsPartOf (A.occasion acts.old) obligation.now index (A.graph acts.old) (A.graph acts.new)) }
 {
     let actions = obligation.response.actions();
     for i in 0..actions.len() as u32 {
@@ -59,9 +63,10 @@ fn run_obligation<A: Acts>(
 }
 
 /// Runs the responses of the obligations at these places, each action in its order, and stops at the first that is
-/// refused or finds no memory: those before it have been done then, and none behind it.
+/// refused or finds no memory: those before it have been done then, and none behind it. So after an error the graph is
+/// what the first actions, in order, have made of it, and no others.
 ///
-/// It takes no memory of its own.
+/// It takes no memory of its own: it finds none only where an action did.
 pub fn run_responses<A: Acts>(
     acts: &mut A,
     obligations: &Obligations,
@@ -75,6 +80,9 @@ pub fn run_responses<A: Acts>(
     ensures same { A.occasion acts.new ≡ A.occasion acts.old }
     ensures history { A.history acts.new ≡ A.history acts.old }
     ensures judged { OnOk result (capped (A.judged acts.new) ≡ capped (A.judged acts.old + judged_responded (A.occasion acts.old) (A.graph acts.old))) }
+    ensures short { A.short acts.new ≡ (A.short acts.old || run_wants_memory result) }
+    ensures err { OnErr result (IsPartway (A.occasion acts.old) (A.graph acts.old) (A.graph acts.new)) }
+    ensures none { length places.now ≡ 0 → IsOk result }
 {
     for i in 0..places.len() as u32 {
         let place = *places.at(i as usize);

@@ -1,5 +1,5 @@
 -- A reply with a list leaves the state.
-use Rattle.std.proofs.Common.{◌≡◌, ◌<◌, ◌+◌, List, [], ◌∷◌, length, Option, Some, None, Result, Ok, Err, refl, arith}
+use Rattle.std.proofs.Common.{◌≡◌, ◌<◌, List, [], ◌∷◌, length, Option, Some, None, Result, Ok, Err, refl, arith}
 use Rattle.pm_model.specs.State.{State, Graph}
 use Rattle.pm_model.specs.Effect.{effect}
 use Rattle.pm_model.specs.Events.{obliging, responders}
@@ -17,7 +17,7 @@ use Rattle.pm_model.specs.declared.replies.Reply.{Reply}
 use Rattle.pm_model.specs.declared.replies.Reply.TheVariants.{Done, Granted, Ahead, Refused}
 use Rattle.pm_model.specs.declared.replies.Shown.TheVariants.{Nothing}
 use Rattle.pm_laws.proofs.Bodies.{answer-is, body-is}
-use Rattle.pm_json.specs.Growth.{items_in}
+use Rattle.pm_print.specs.Growth.{items_in}
 
 abbrev pub IsListLeft : Answer → Type 0
 IsListLeft a = 0 < items_in a.reply → a.next ≡ None

@@ -3,11 +3,11 @@ ghost use Rattle.std.specs.Prelude.{◌≡◌, ◌↔◌, ◌≤◌, ◌<◌, �
 ghost use Rattle.pm_model.specs.Lines.{shape, cut};
 ghost use Rattle.pm_model.specs.Nameable.{IsNameable};
 ghost use Rattle.pm_model.specs.Text.{text, bad_text};
-ghost use Rattle.pm_json.specs.Growth.{reply_most};
+ghost use Rattle.pm_print.specs.Growth.{reply_most};
 
 use crate::waiting::{LONGEST, ROOM, line_at, part, push_bytes, remove_front};
-use pm_json::{LONGEST_REPLY, print_bad, print_reply};
 use pm_model::{BadLine, LineEvent, Memory, NameOf, Reply};
+use pm_print::{LONGEST_REPLY, print_bad, print_reply};
 use std::alloc::Global;
 use std::marker::Model;
 

@@ -8,20 +8,19 @@ use Rattle.pm_model.specs.KeptReviews.{KeptReview, is_kept_of}
 use Rattle.pm_model.specs.Reviews.{numbers_in, users_in}
 use Rattle.pm_model.specs.State.{Graph}
 use Rattle.pm_model.specs.declared.requests.Change.{Change}
-use Rattle.pm_model.specs.declared.requests.Change.TheVariants.{DropReview, Keep}
 use Rattle.pm_model.specs.declared.reviews.Pair.{Pair}
 use Rattle.pm_model.specs.declared.reviews.ReviewOf.{ReviewOf}
 use Rattle.pm_model.specs.declared.reviews.ReviewOf.TheVariants.{Caps, Entries}
 use Rattle.pm_affect.specs.Affected.{is_in, region_of}
-use Rattle.pm_affect.specs.Counting.{capped, is_reviewed, judged_for}
+use Rattle.pm_affect.specs.Counting.{capped, judged_for}
 use Rattle.pm_affect.specs.Judged.{in_scope, judged}
 use Rattle.pm_affect.specs.Lists.{AreKept, Lists, inserted, list_in, removed}
 use Rattle.pm_affect.specs.declared.region.Region.{Region}
 use Rattle.pm_affect.specs.declared.region.Region.TheVariants.{Nothing}
-use Rattle.pm_affect.proofs.Counting.{AreOf, capped-small, judged-nothing, judged-untouched, judged_listed}
+use Rattle.pm_affect.proofs.Counting.{AreOf, judged-nothing, judged-untouched, judged_listed}
 use Rattle.pm_affect.proofs.Untouched.{AreUntouched}
 use Rattle.pm_state.specs.Drafted.{asked_of}
-use Rattle.pm_state.specs.Listing.{AreListed, kept_list}
+use Rattle.pm_state.specs.Listing.{AreListed}
 use Rattle.pm_state.specs.Repairs.{IsAsked, IsCharged, IsDue}
 use Rattle.pm_state.specs.declared.repairs.Repair.{Repair}
 use Rattle.pm_state.specs.declared.repairs.Repair.TheVariants.{Less, More, Within}

@@ -1,11 +1,11 @@
 -- Changes that leave the kept reviews: those that touch none of them.
-use Rattle.std.proofs.Common.{◌≡◌, ◌∷◌, ℕ, zero, suc, Bool, true, false, List, [], length, map, Ok, Option, Some, None, Contains, IsTrue, All, refl, sym, ◌∙◌, ap, subst, eq-eqb}
+use Rattle.std.proofs.Common.{◌≡◌, ℕ, zero, suc, Bool, true, false, List, [], Ok, Option, Some, None, refl, sym, ◌∙◌, ap, subst, eq-eqb}
 use Rattle.std.specs.List.{list_any}
 use Rattle.std.proofs.lemmas.Slice.Eq.{bytes_eq-Decides}
 use Rattle.pm_model.specs.State.{Graph, name_numbered}
 use Rattle.pm_model.specs.Containment.{contained}
 use Rattle.pm_model.specs.Effect.{changed, effect, refusal}
-use Rattle.pm_model.specs.Formed.{Each, IsLive, IsNamed, IsUser, IsWellFormed}
+use Rattle.pm_model.specs.Formed.{IsLive, IsNamed, IsUser, IsWellFormed}
 use Rattle.pm_model.specs.KeptReviews.{KeptReview, is_kept_as, is_kept_of, is_same, kept_at}
 use Rattle.pm_model.specs.LastChanges.{changes_at, changes_below, changes_between, changes_in, rights_listed, settled_review, with_changes, with_last}
 use Rattle.pm_model.specs.Reviews.{list_of, numbers_in, rights_in, users_in}
@@ -21,10 +21,9 @@ use Rattle.pm_laws.proofs.Formed.{formed-effect}
 use Rattle.pm_laws.proofs.Items.{any-from, each-all, each-map, each-to, find-found}
 use Rattle.pm_laws.proofs.KeptReviews.{is-same, map-stays, same-is, with_changes_none}
 use Rattle.pm_decide.specs.Live as decide
-use Rattle.pm_affect.specs.Affected.{is_in, region_of}
-use Rattle.pm_affect.specs.Judged.{in_scope}
+use Rattle.pm_affect.specs.Affected.{region_of}
 use Rattle.pm_affect.specs.Lists.{AreKept, Listed, Lists, subjects}
-use Rattle.pm_affect.specs.Right.{AreLive, AreRight}
+use Rattle.pm_affect.specs.Right.{AreLive}
 use Rattle.pm_affect.specs.declared.region.Region.{Region}
 use Rattle.pm_affect.proofs.Before.{all_rise, lists_right, users_rise}
 use Rattle.pm_affect.proofs.Counting.{judged-never, judged-untouched}
@@ -37,7 +36,7 @@ use Rattle.pm_state.specs.Repairs.{IsDue, is_of_reviews}
 use Rattle.pm_state.specs.declared.repairs.Repair.TheVariants.{Within}
 use Rattle.pm_state.proofs.Charged.{listed-of, none-judged}
 use Rattle.pm_state.proofs.Listed.{kept-listed, none-changed, reviews-stay, unkept-listed}
-use Rattle.pm_state.proofs.Repaired.{anew-listed, are-lists, are-live, due-same}
+use Rattle.pm_state.proofs.Repaired.{anew-listed, are-lists, are-live}
 
 -- ---- what lists are of may be asked about
 

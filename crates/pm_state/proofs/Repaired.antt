@@ -1,5 +1,5 @@
 -- Lists that are made up for a change are those of the graph after it.
-use Rattle.std.proofs.Common.{◌≡◌, ◌||◌, ◌==◌, ℕ, Bool, true, false, not, nat_lt, List, [], ◌∷◌, map, cond, Option, Some, None, option_map, Ok, Contains, inl, inr, refl, sym, ◌∙◌, ap, subst}
+use Rattle.std.proofs.Common.{◌≡◌, ◌||◌, ◌==◌, ℕ, Bool, true, false, not, nat_lt, List, [], ◌∷◌, map, cond, Option, Some, None, option_map, Result, Ok, Err, IfOk, Contains, inl, inr, refl, sym, ◌∙◌, ap, subst}
 use Rattle.std.specs.List.{list_any}
 use Rattle.std.proofs.lemmas.Bool.{cond_both, eqb-true, false_from_ne_true}
 use Rattle.pm_model.specs.State.{Graph}
@@ -17,12 +17,13 @@ use Rattle.pm_laws.proofs.Items.{any-found, any-from, contains-cases, contains-f
 use Rattle.pm_laws.proofs.KeptReviews.{is-same, kept-found, kept-is, same-is}
 use Rattle.pm_affect.specs.Lists as lists
 use Rattle.pm_affect.specs.Lists.{Listed, Lists, inserted, list_in, pairs_of_some, removed}
-use Rattle.pm_affect.specs.Affected.{region}
+use Rattle.pm_affect.specs.Affected.{is_of_prohibition, region}
 use Rattle.pm_affect.specs.declared.region.Region.{Region}
 use Rattle.pm_affect.specs.declared.region.Region.TheVariants.{Nothing}
 use Rattle.pm_affect.specs.Right.{AreLists, AreLive, caps_anew, entries_anew}
 use Rattle.pm_state.specs.Listing.{AreListed, kept_list}
-use Rattle.pm_state.specs.Repairs.{IsDue}
+use Rattle.pm_state.specs.Repairs.{IsAsked, IsDue, drops_review, is_less, is_of_reviews}
+use Rattle.pm_state.specs.declared.repairs.Repair.{Repair}
 use Rattle.pm_state.specs.declared.repairs.Repair.TheVariants.{More, Less, Within}
 use Rattle.pm_state.proofs.Among.{each-some, in-inserted, in-removed, some-map}
 use Rattle.pm_state.proofs.Listed.{kept-listed, unkept-listed, listed-kept, list-alike, same-listed, reviews-stay, none-listed, listed-none}
@@ -249,3 +250,24 @@ module _ (L : Lists) (H : Graph) (outside : AreKeptOutside) (due : IsDue L H (Wi
     by false is =
         let no : list_any (is_kept_of of) H.kept ≡ false = ap (λ (ks : List KeptReview). list_any (is_kept_of of) ks) (due-same L H Nothing due) ∙ is in
         unkept-listed due.before of is ∙ sym (unkept-listed H of no)
+
+-- ---- where there are some
+
+pub if-both : {X E : Type 0} (r : Result X E) (P Q S : X → Type 0) → ((x : X) → P x → Q x → S x) → IfOk r P → IfOk r Q → IfOk r S
+if-both (Ok x) P Q S both p q = both x p q
+if-both (Err why) P Q S both p q = tt
+
+of-reviews : (c : Change) → drops_review c ≡ true → is_of_reviews c ≡ true
+of-reviews (DropReview n) drops = refl
+of-reviews _ drops = absurd (cc)
+
+-- a review that is dropped asks for a list less
+pub less-asked : (G : Graph) (c : Change) (asked : Repair) → IsAsked G c asked → drops_review c ≡ true → is_less asked ≡ true
+less-asked G c (More of) is drops = absurd (let no : false ≡ true = sym (ap drops_review is) ∙ drops in cc)
+less-asked G c (Less of) is drops = refl
+less-asked G c (Within of) is drops = absurd (let yes = of-reviews c drops in let no = is.1 in cc)
+
+-- and takes or makes no prohibition
+pub drops-none : (c : Change) → drops_review c ≡ true → is_of_prohibition c ≡ false
+drops-none (DropReview n) drops = refl
+drops-none _ drops = absurd (cc)

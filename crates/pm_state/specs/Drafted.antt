@@ -1,15 +1,17 @@
 -- What contracts see of a draft.
-use Rattle.std.specs.Prelude.{ℕ, List, Option, None, Some}
+use Rattle.std.specs.Prelude.{ℕ, Bool, List, Option, None, Some}
 use Rattle.pm_model.specs.History.{Machine}
 use Rattle.pm_model.specs.State.{Graph}
 use Rattle.pm_model.specs.declared.requests.Entry.{Entry}
 use Rattle.pm_affect.specs.Lists.{Lists}
 
--- a graph, the history that it began from, and how many rights were judged for kept reviews, up to 2 ^ 64 - 1
+-- a graph, the history that it began from, how many rights were judged for kept reviews, up to 2 ^ 64 - 1, and whether it has
+-- the lists of these still
 pub record Drafted : Type 0 where
   pub graph : Graph
   pub history : List Entry
   pub asked : ℕ
+  pub whole : Bool
 
 -- what of it is to be a state
 abbrev pub machine_in : Drafted → Machine

@@ -1,5 +1,5 @@
 -- What a change leaves as it was: the kept reviews, and the names of elements.
-use Rattle.std.specs.Prelude.{◌≡◌, ℕ, Bool, true, false, List, Ok}
+use Rattle.std.specs.Prelude.{◌≡◌, ℕ, Bool, true, false, Ok}
 use Rattle.pm_model.specs.Effect.{effect}
 use Rattle.pm_model.specs.Formed.{IsLive}
 use Rattle.pm_model.specs.LastChanges.{with_changes}

@@ -22,6 +22,16 @@ is_of_reviews (Keep of) = true
 is_of_reviews (DropReview n) = true
 is_of_reviews _ = false
 
+-- the change keeps a review no longer
+abbrev pub drops_review : Change → Bool
+drops_review (DropReview n) = true
+drops_review _ = false
+
+-- a list less is asked for
+abbrev pub is_less : Repair → Bool
+is_less (Less of) = true
+is_less _ = false
+
 -- a list more, a list less, or the lists that are there, in the region of the change
 abbrev pub IsAsked : Graph → Change → Repair → Type 0
 IsAsked G change (More of) = change ≡ Keep of
@@ -42,7 +52,7 @@ pub record IsDue (L : Lists) (H : Graph) (repair : Repair) : Type 0 where
 abbrev pub IsCharged : Lists → Lists → Graph → Repair → Type 0
 IsCharged L M H repair = (due : IsDue L H repair) → M.asked ≡ capped (L.asked + judged_for due.before due.change)
 
--- what an error leaves: a refusal the draft as it was, want of memory the draft as it was or changed
+-- what an error leaves: a refusal the draft as it was; want of memory the draft as it was, or changed and without its lists
 abbrev pub IsLeft : Drafted → Drafted → Change → ChangeError → Type 0
 IsLeft old new change (Refused why) = new ≡ old
-IsLeft old new change Memory = (new ≡ old) ⊎ (effect old.graph change ≡ Ok new.graph)
+IsLeft old new change Memory = (new ≡ old) ⊎ ((effect old.graph change ≡ Ok new.graph) × (new.whole ≡ false))

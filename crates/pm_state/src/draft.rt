@@ -1,4 +1,4 @@
-ghost use Rattle.std.specs.Prelude.{◌≡◌, ◌<◌, ◌≤◌, ◌+◌, ◌∷◌, ◌++◌, [], true, Ok, Some, length, slice_get, slice_set, OnOk, IfOk, IfErr};
+ghost use Rattle.std.specs.Prelude.{◌≡◌, ◌<◌, ◌≤◌, ◌+◌, ◌∷◌, ◌++◌, [], true, Ok, Some, length, slice_get, slice_set, OnOk, IfOk, IfErr, IsOk};
 ghost use Rattle.std.specs.List.{list_any};
 ghost use Rattle.pm_model.specs.Answer.{longest_history};
 ghost use Rattle.pm_model.specs.Effect.{refusal, effect, IsCause};
@@ -11,7 +11,7 @@ ghost use Rattle.pm_affect.specs.Counting.{capped, judged_for, judged_in};
 ghost use Rattle.pm_state.specs.Drafted.{machine_in};
 ghost use Rattle.pm_state.specs.Leaving.{AreNamesKept};
 ghost use Rattle.pm_state.specs.Listing.{AreListed};
-ghost use Rattle.pm_state.specs.Repairs.{IsLeft};
+ghost use Rattle.pm_state.specs.Repairs.{IsLeft, drops_review};
 
 use crate::graph::Graph;
 use crate::repairs::{deletes, repair_of, repaired};
@@ -63,7 +63,7 @@ impl Draft {
         requires replayed { IsReplayed (record { graph = graph; history = history.entries }) }
         requires limit { history.limit ≡ longest_history }
         requires listed { AreListed lists graph }
-        ensures { result ≡ record { graph = graph; history = history.entries; asked = lists.asked } }
+        ensures { result ≡ record { graph = graph; history = history.entries; asked = lists.asked; whole = true } }
     {
         Draft {
             graph,
@@ -87,9 +87,11 @@ impl Draft {
         !self.deleted
     }
 
-    /// The lists of all kept reviews: what each answers in the graph as it is now. `Memory` comes once memory was wanting for them.
+    /// The lists of all kept reviews: what each answers in the graph as it is now. `Memory` comes once memory was wanting for
+    /// them, and only then.
     pub fn lists(&self) -> Result<&KeptLists, Memory>
-        ensures { IfOk result (λ lists. AreListed lists.now self.now.graph) }
+        ensures lists { IfOk result (λ lists. AreListed lists.now self.now.graph) }
+        ensures free { self.now.whole ≡ true → IsOk result }
     {
         match &self.lists {
             Some(lists) => Ok(lists),
@@ -100,7 +102,8 @@ impl Draft {
     /// The list of a review that is kept: what it answers in the graph as it is now. `Memory` comes where `lists` says so.
     pub fn list(&self, of: &ReviewOf<ElementId>) -> Result<&PairList, Memory>
         requires { list_any (is_kept_of of.now) self.now.graph.kept ≡ true }
-        ensures { IfOk result (λ list. list.now ≡ list_of self.now.graph of.now) }
+        ensures list { IfOk result (λ list. list.now ≡ list_of self.now.graph of.now) }
+        ensures free { self.now.whole ≡ true → IsOk result }
     {
         match self.lists()?.list(of) {
             Some(list) => Ok(list),
@@ -109,8 +112,8 @@ impl Draft {
     }
 
     /// Makes one change, or tells the first precondition that isn't met. A refusal leaves the draft. After want of memory the
-    /// change may be made and the lists of kept reviews not: then the draft can only be dropped, since each later change, `lists`
-    /// and `finish` want memory too.
+    /// change may be made and the lists of kept reviews gone: then the draft can only be dropped, since each later change, `lists`
+    /// and `finish` want memory too. To drop a review takes no memory while the lists are there.
     ///
     /// While no review is kept it costs what the change does, and a copy of a prohibition that is made or lifted; where it touches
     /// no kept review, also what `touches` of `pm_affect` says. Else the rights of each pair that the change can have changed, and
@@ -124,6 +127,8 @@ impl Draft {
         ensures err { IfErr result (IsLeft self.old self.new change.now) }
         ensures history { self.new.history ≡ self.old.history }
         ensures asked { OnOk result (self.new.asked ≡ capped (self.old.asked + judged_for self.old.graph change.now)) }
+        ensures whole { OnOk result (self.new.whole ≡ true) }
+        ensures free { drops_review change.now ≡ true → self.old.whole ≡ true → IsOk result }
     {
         self.graph.formed();
         let asked = match repair_of(&self.graph, change) {
@@ -150,6 +155,7 @@ impl Draft {
         ensures graph { (k : KeptReview) → slice_get self.old.graph.kept place ≡ Some k → self.new.graph ≡ record self.old.graph { kept = slice_set self.old.graph.kept place (record k { at = version; changed = changes }) } }
         ensures history { self.new.history ≡ self.old.history }
         ensures asked { self.new.asked ≡ self.old.asked }
+        ensures whole { self.new.whole ≡ self.old.whole }
     {
         self.graph.set_last(place, version, changes);
     }

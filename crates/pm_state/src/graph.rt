@@ -1,11 +1,12 @@
-ghost use Rattle.std.specs.Prelude.{◌≡◌, ◌<◌, ℕ, IfSome, is_some, length, slice_get, slice_set, OnOk, OnErr, IfOk, IfErr, None, Some};
+ghost use Rattle.std.specs.Prelude.{◌≡◌, ◌<◌, ℕ, IfSome, is_some, length, slice_get, slice_set, OnOk, OnErr, IfOk, IfErr, IsOk, None, Some, true};
 ghost use Rattle.pm_model.specs.State.{element_at, opening, classes_in};
 ghost use Rattle.pm_model.specs.Decision.{associations_of};
 ghost use Rattle.pm_model.specs.Effect.{refusal, effect, IsCause};
 ghost use Rattle.pm_model.specs.Formed.{IsWellFormed, IsNamed};
 ghost use Rattle.pm_model.specs.KeptReviews.{KeptReview};
 ghost use Rattle.pm_model.specs.Made.{made_by};
-ghost use Rattle.pm_model.specs.RightSet.{bit_named};
+ghost use Rattle.pm_model.specs.RightSet.{bit_named, right_bits};
+ghost use Rattle.pm_state.specs.Repairs.{drops_review};
 ghost use Rattle.pm_reach.specs.Changes.{TellContainment};
 ghost use Rattle.pm_reach.specs.Rows.{has};
 
@@ -143,7 +144,7 @@ impl Graph {
     /// The bit of the right of a name; None exactly where no right has it.
     pub fn right(&self, name: Name) -> Option<u8>
         ensures value { result ≡ bit_named self.now.rights name }
-        ensures below { IfSome result (λ bit. bit < 64) }
+        ensures below { IfSome result (λ bit. bit < right_bits) }
     {
         self.tables.rights.find(name)
     }
@@ -187,13 +188,14 @@ impl Graph {
         self.tables.check(change)
     }
 
-    /// Makes one change, or tells the first precondition that isn't met.
+    /// Makes one change, or tells the first precondition that isn't met. To drop a review takes no memory.
     pub(crate) fn change(&mut self, change: &Change) -> Result<Made, ChangeError>
         requires { IsNamed self.old change.now }
         ensures ok { OnOk result (effect self.old change.now ≡ Ok self.new) }
         ensures made { IfOk result (λ m. m ≡ made_by self.old change.now) }
         ensures refused { IfErr result (IsCause (refusal self.old change.now)) }
         ensures err { OnErr result (self.new ≡ self.old) }
+        ensures free { drops_review change.now ≡ true → IsOk result }
     {
         let made = match self.tables.change(change) {
             Ok(made) => made,

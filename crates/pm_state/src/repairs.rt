@@ -1,13 +1,13 @@
 //! The lists of kept reviews, made up for a change of the graph.
-ghost use Rattle.std.specs.Prelude.{◌≡◌, false, true, IfOk, IfSome, IsSomeAnd, OnOk};
+ghost use Rattle.std.specs.Prelude.{◌≡◌, false, true, IfOk, IfSome, IsOk, IsSome, IsSomeAnd};
 ghost use Rattle.std.specs.Option.{option_copied};
 ghost use Rattle.pm_model.specs.Formed.{IsNamed};
-ghost use Rattle.pm_affect.specs.Affected.{lifted_by};
+ghost use Rattle.pm_affect.specs.Affected.{is_of_prohibition, lifted_by};
 ghost use Rattle.pm_affect.specs.Lists.{Lists};
 ghost use Rattle.pm_state.specs.Leaving.{LeavesReviews, alters, deletes};
 ghost use Rattle.pm_state.specs.Listing.{AreListed, keeps};
 ghost use Rattle.pm_affect.specs.Counting.{judged_for};
-ghost use Rattle.pm_state.specs.Repairs.{IsAsked, IsCharged, IsDue};
+ghost use Rattle.pm_state.specs.Repairs.{IsAsked, IsCharged, IsDue, is_less};
 
 use crate::asking::{list_of, live_elements, live_users};
 use crate::graph::Graph;
@@ -73,7 +73,8 @@ fn lifted<'a>(graph: &'a Graph, change: &Change) -> Option<&'a Prohibition>
 /// What a change of the graph will ask of its lists. Only a copy of a prohibition takes memory.
 pub(crate) fn repair_of(graph: &Graph, change: &Change) -> Result<Repair, Memory>
     requires { IsNamed graph.now change.now }
-    ensures { IfOk result (IsAsked graph.now change.now) }
+    ensures asked { IfOk result (IsAsked graph.now change.now) }
+    ensures free { is_of_prohibition change.now ≡ false → IsOk result }
 {
     match change {
         Change::Keep { of } => Ok(Repair::More(*of)),
@@ -90,7 +91,8 @@ pub(crate) fn repair_of(graph: &Graph, change: &Change) -> Result<Repair, Memory
 pub(crate) fn leaves(lists: &KeptLists, graph: &Graph, change: &Change) -> Result<bool, Memory>
     requires named { IsNamed graph.now change.now }
     requires listed { AreListed lists.now graph.now }
-    ensures { IfOk result (λ yes. yes ≡ true → LeavesReviews graph.now change.now) }
+    ensures answer { IfOk result (λ yes. yes ≡ true → LeavesReviews graph.now change.now) }
+    ensures free { is_of_prohibition change.now ≡ false → IsOk result }
 {
     if graph.kept().is_empty() {
         return Ok(!keeps(change));
@@ -120,69 +122,71 @@ fn are_touched(lists: &KeptLists, graph: &Graph, region: &Region) -> bool
 
 /// Asks again for the rights of the pairs that lie in the region and in the scope of a kept review, each once, and charges the
 /// lists for them.
-fn judge_again(lists: &mut KeptLists, graph: &Graph, region: &Region) -> Result<(), Memory>
-    requires { IsDue lists.old graph.now (Repair.Within region.now) }
-    ensures listed { OnOk result (AreListed lists.new graph.now) }
-    ensures charged { OnOk result (IsCharged lists.old lists.new graph.now (Repair.Within region.now)) }
+fn judge_again(lists: KeptLists, graph: &Graph, region: &Region) -> Result<KeptLists, Memory>
+    requires { IsDue lists graph.now (Repair.Within region.now) }
+    ensures listed { IfOk result (λ (M : Lists). AreListed M graph.now) }
+    ensures charged { IfOk result (λ (M : Lists). IsCharged lists M graph.now (Repair.Within region.now)) }
 {
     graph.formed();
     lists.kept();
     lists_right();
     numbers_rise();
     region_live();
-    if !are_touched(lists, graph, region) {
-        return Ok(());
+    if !are_touched(&lists, graph, region) {
+        return Ok(lists);
     }
     let elements = live_elements(graph)?;
     let users = live_users(graph)?;
     let mut reach = graph.reach();
     let mut judge = GraphJudge::new(graph);
-    update(lists, region, &elements, &users, &mut reach, &mut judge)?;
-    Ok(())
+    update(lists, region, &elements, &users, &mut reach, &mut judge)
 }
 
 /// Does so, where a review is kept and the region isn't empty.
-fn repair_within(lists: &mut KeptLists, graph: &Graph, region: &Region) -> Result<(), Memory>
-    requires { IsDue lists.old graph.now (Repair.Within region.now) }
-    ensures listed { OnOk result (AreListed lists.new graph.now) }
-    ensures charged { OnOk result (IsCharged lists.old lists.new graph.now (Repair.Within region.now)) }
+fn repair_within(lists: KeptLists, graph: &Graph, region: &Region) -> Result<KeptLists, Memory>
+    requires { IsDue lists graph.now (Repair.Within region.now) }
+    ensures listed { IfOk result (λ (M : Lists). AreListed M graph.now) }
+    ensures charged { IfOk result (λ (M : Lists). IsCharged lists M graph.now (Repair.Within region.now)) }
 {
     lists.kept();
     if graph.kept().is_empty() {
-        return Ok(());
+        return Ok(lists);
     }
     rights_outside();
     match region {
-        Region::Nothing => Ok(()),
+        Region::Nothing => Ok(lists),
         _ => judge_again(lists, graph, region),
     }
 }
 
 /// Puts the list of a review among the others.
-fn insert(lists: &mut KeptLists, graph: &Graph, of: ReviewOf<ElementId>) -> Result<(), Memory>
-    requires { IsDue lists.old graph.now (Repair.More of) }
-    ensures listed { OnOk result (AreListed lists.new graph.now) }
-    ensures charged { OnOk result (IsCharged lists.old lists.new graph.now (Repair.More of)) }
+fn insert(mut lists: KeptLists, graph: &Graph, of: ReviewOf<ElementId>) -> Result<KeptLists, Memory>
+    requires { IsDue lists graph.now (Repair.More of) }
+    ensures listed { IfOk result (λ (M : Lists). AreListed M graph.now) }
+    ensures charged { IfOk result (λ (M : Lists). IsCharged lists M graph.now (Repair.More of)) }
 {
     lists.kept();
     graph.formed();
     list_in_order();
     let list = list_of(graph, &of)?;
-    lists.insert(of, list)
+    lists.insert(of, list)?;
+    Ok(lists)
 }
 
-/// Makes the lists those of the graph to which a change has led that asked for this. On Memory some may be as they were.
-fn make_up(lists: &mut KeptLists, graph: &Graph, asked: Repair) -> Result<(), Memory>
-    requires { IsDue lists.old graph.now asked }
-    ensures listed { OnOk result (AreListed lists.new graph.now) }
-    ensures charged { OnOk result (IsCharged lists.old lists.new graph.now asked) }
+/// The lists of the graph to which a change has led that asked for this, made of those before it. On Memory they are dropped,
+/// since some may be as they were. One less takes no memory.
+fn made_up(mut lists: KeptLists, graph: &Graph, asked: Repair) -> Result<KeptLists, Memory>
+    requires { IsDue lists graph.now asked }
+    ensures listed { IfOk result (λ (M : Lists). AreListed M graph.now) }
+    ensures charged { IfOk result (λ (M : Lists). IsCharged lists M graph.now asked) }
+    ensures free { is_less asked ≡ true → IsOk result }
 {
     lists.kept();
     match asked {
         Repair::More(of) => insert(lists, graph, of),
         Repair::Less(of) => {
             lists.remove(of);
-            Ok(())
+            Ok(lists)
         }
         Repair::Within(region) => repair_within(lists, graph, &region),
     }
@@ -193,10 +197,10 @@ pub(crate) fn repaired(lists: Option<KeptLists>, graph: &Graph, asked: Repair) -
     requires { IfSome lists (λ (L : Lists). IsDue L graph.now asked) }
     ensures listed { IfSome result (λ (L : Lists). AreListed L graph.now) }
     ensures charged { IfSome result (λ (M : Lists). IsSomeAnd lists (λ (L : Lists). IsCharged L M graph.now asked)) }
+    ensures free { is_less asked ≡ true → IsSome lists → IsSome result }
 {
-    let mut lists = lists?;
-    match make_up(&mut lists, graph, asked) {
-        Ok(()) => Some(lists),
+    match made_up(lists?, graph, asked) {
+        Ok(lists) => Some(lists),
         Err(Memory) => None,
     }
 }

@@ -1,6 +1,6 @@
 //! Changes of kept reviews.
 
-ghost use Rattle.std.specs.Prelude.{◌≡◌};
+ghost use Rattle.std.specs.Prelude.{◌≡◌, IsOk};
 ghost use Rattle.pm_model.specs.Effect.{may_keep};
 ghost use Rattle.pm_state.specs.Changes.{Changes, Checks};
 
@@ -43,7 +43,8 @@ impl Tables {
 
     /// It takes no memory, and is never refused.
     pub(crate) fn drop_review(&mut self, number: u32) -> Result<Made, ChangeError>
-        ensures { Changes self.old self.new (Change.DropReview number) result }
+        ensures changes { Changes self.old self.new (Change.DropReview number) result }
+        ensures free { IsOk result }
     {
         self.kept.drop_review(number);
         Ok(Made::Nothing)

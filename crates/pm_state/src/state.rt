@@ -1,4 +1,4 @@
-ghost use Rattle.std.specs.Prelude.{◌≡◌, ◌<◌, ◌≤◌, ◌∷◌, ◌++◌, [], true, None, Ok, length, slice_get, OnOk, OnErr, IfOk, IfErr};
+ghost use Rattle.std.specs.Prelude.{◌≡◌, ◌<◌, ◌≤◌, ◌∷◌, ◌++◌, [], true, false, None, Ok, length, slice_get, OnOk, OnErr, IfOk, IfErr, IsOk};
 ghost use Rattle.std.specs.List.{list_any};
 ghost use Rattle.std.specs.Option.{option_copied};
 ghost use Rattle.pm_model.specs.Effect.{effect, IsCause};
@@ -9,6 +9,7 @@ ghost use Rattle.pm_model.specs.KeptReviews.{is_kept_of};
 ghost use Rattle.pm_model.specs.Made.{made_by};
 ghost use Rattle.pm_model.specs.Reviews.{list_of};
 ghost use Rattle.pm_laws.specs.Meaning.{AreGivenBy};
+ghost use Rattle.pm_affect.specs.Affected.{is_of_prohibition};
 ghost use Rattle.pm_affect.specs.Counting.{capped, judged_by, judged_for, judged_in};
 ghost use Rattle.pm_state.specs.Leaving.{LeavesReviews};
 ghost use Rattle.pm_state.specs.Listing.{AreListed};
@@ -179,7 +180,8 @@ impl State {
     /// prohibition as many as its sets have elements.
     pub fn leaves_reviews(&self, change: &Change) -> Result<bool, Memory>
         requires { IsNamed self.now.graph change.now }
-        ensures { IfOk result (λ yes. yes ≡ true → LeavesReviews self.now.graph change.now) }
+        ensures answer { IfOk result (λ yes. yes ≡ true → LeavesReviews self.now.graph change.now) }
+        ensures free { is_of_prohibition change.now ≡ false → IsOk result }
     {
         leaves(&self.lists, &self.graph, change)
     }
@@ -241,7 +243,7 @@ impl State {
 
     /// A copy in which one change after another can be made, to be one entry together.
     pub fn draft(&self) -> Result<Draft, Memory>
-        ensures { IfOk result (λ d. d ≡ record { graph = self.now.graph; history = self.now.history; asked = capped (judged_in self.now.history) }) }
+        ensures { IfOk result (λ d. d ≡ record { graph = self.now.graph; history = self.now.history; asked = capped (judged_in self.now.history); whole = true }) }
     {
         let graph = self.graph.copy()?;
         let lists = self.lists.copy()?;

@@ -1,7 +1,8 @@
 //! The tables, and what each change does to them. The methods for the changes stand by topic, in files of their own.
-ghost use Rattle.std.specs.Prelude.{◌≡◌, IfOk};
+ghost use Rattle.std.specs.Prelude.{◌≡◌, true, IfOk, IsOk};
 ghost use Rattle.pm_model.specs.Formed.{IsNamed};
 ghost use Rattle.pm_state.specs.Changes.{Changes, Checks, IsSame};
+ghost use Rattle.pm_state.specs.Repairs.{drops_review};
 ghost use Rattle.pm_state.specs.Shown.{graph_of};
 
 use pm_assoc::Assoc;
@@ -70,10 +71,11 @@ impl Tables {
         })
     }
 
-    /// Makes one change, or tells the first precondition that isn't met.
+    /// Makes one change, or tells the first precondition that isn't met. To drop a review takes no memory.
     pub(crate) fn change(&mut self, change: &Change) -> Result<Made, ChangeError>
         requires { IsNamed (graph_of self.old) change.now }
-        ensures { Changes self.old self.new change.now result }
+        ensures changes { Changes self.old self.new change.now result }
+        ensures free { drops_review change.now ≡ true → IsOk result }
     {
         match change {
             Change::Create {

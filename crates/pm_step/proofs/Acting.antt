@@ -1,5 +1,5 @@
 -- An action in its turn, in a graph that has the obligations at the places.
-use Rattle.std.proofs.Common.{◌≡◌, ◌-◌, ◌<◌, ℕ, List, length, Some, Result, Ok, Err, OnOk, OnErr, inl, inr, slice_get, All, Contains, refl, sym, ◌∙◌, ap, subst, arith}
+use Rattle.std.proofs.Common.{◌≡◌, ◌-◌, ◌<◌, ℕ, List, length, Some, Result, Ok, Err, OnOk, IfErr, inl, inr, slice_get, All, Contains, refl, sym, ◌∙◌, ap, subst, arith}
 use Rattle.std.proofs.lemmas.List.Elements.{All-contains}
 use Rattle.std.proofs.lemmas.Option.{slice_get_within, same_Some}
 use Rattle.pm_model.specs.State.{Graph}
@@ -13,11 +13,13 @@ use Rattle.pm_model.specs.declared.obligations.Place.{Place}
 use Rattle.pm_laws.proofs.Items.{get-contains}
 use Rattle.pm_laws.proofs.Live.{author_is}
 use Rattle.pm_laws.proofs.Responding.{responses_keep_obligations}
+use Rattle.pm_runner.specs.Outcomes.{IsLeft}
 use Rattle.pm_runner.specs.Turns.{Occasion, IsTurn, acted_at, judged_acted_at}
+use Rattle.pm_runner.specs.declared.errors.ActError.{ActError}
+use Rattle.pm_runner.specs.declared.errors.ActError.TheVariants.{Memory, Refused}
 use Rattle.pm_runner.proofs.Places.{as_many, stands_at}
 use Rattle.pm_runner.proofs.Steps.{standing-parts, turn-made}
-use Rattle.pm_state.specs.Drafted.{Drafted}
-use Rattle.pm_step.specs.Responders.{items_at, AreResponders, IsLeftBy}
+use Rattle.pm_step.specs.Responders.{items_at, AreResponders}
 
 module _ (names : EventNames) (version : ℕ) (obligations : List Obligation) (places : List ℕ) (G : Graph) (place : Place) where
   abbrev these : List Obligation
@@ -69,13 +71,14 @@ module _ (names : EventNames) (version : ℕ) (obligations : List Obligation) (p
       record { at = h.at; below = h.below; stand = λ o c. subst (λ os. Contains os o) same (h.stand o c) }
 
   -- whether it is done or not
-  pub responders-stay-either : {A E : Type 0} (result : Result A E) (before behind : Drafted) → before.graph ≡ G →
-      OnOk result (acted_at occasion G place ≡ Ok behind.graph) → OnErr result (IsLeftBy before behind (acted_at occasion G place)) →
-      AreResponders obligations places G → IsTurn occasion G place → AreResponders obligations places behind.graph
-  responders-stay-either (Ok a) before behind is done left h turn = responders-stay behind.graph h turn done
-  responders-stay-either (Err e) before behind is done left h turn = elim left [
-    | inl same ↦ subst (λ (K : Graph). AreResponders obligations places K) (sym is ∙ ap (λ (D : Drafted). D.graph) (sym same)) h
-    | inr made ↦ responders-stay behind.graph h turn made
+  pub responders-stay-either : {A : Type 0} (result : Result A ActError) (behind : Graph) →
+      OnOk result (acted_at occasion G place ≡ Ok behind) → IfErr result (IsLeft G behind (acted_at occasion G place)) →
+      AreResponders obligations places G → IsTurn occasion G place → AreResponders obligations places behind
+  responders-stay-either (Ok a) behind done left h turn = responders-stay behind h turn done
+  responders-stay-either (Err (Refused why)) behind done left h turn = subst (λ (K : Graph). AreResponders obligations places K) (sym left) h
+  responders-stay-either (Err Memory) behind done left h turn = elim left [
+    | inl same ↦ subst (λ (K : Graph). AreResponders obligations places K) (sym same) h
+    | inr made ↦ responders-stay behind h turn made
   ]
 
 -- what is at a place is below the length

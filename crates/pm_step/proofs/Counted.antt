@@ -1,30 +1,42 @@
 -- How many rights are judged for kept reviews, from a request that comes to a change or an access to its entry.
-use Rattle.std.proofs.Common.{◌≡◌, ◌+◌, ◌-◌, ◌∷◌, ◌++◌, ℕ, false, List, [], Option, Some, None, Result, Ok, slice_get, refl, sym, ◌∙◌, ap, arith}
+use Rattle.std.proofs.Common.{◌≡◌, ◌+◌, ◌-◌, ◌∷◌, ◌++◌, ℕ, false, List, [], Option, Some, None, Result, Ok, Err, IfOk, OnOk, slice_get, refl, sym, ◌∙◌, ap, arith}
+use Rattle.std.proofs.lemmas.List.{append-nil}
 use Rattle.pm_model.specs.State.{State, Graph}
-use Rattle.pm_model.specs.Answer.{acting, is_ahead}
+use Rattle.pm_model.specs.Answer.{acting, answer, is_ahead}
 use Rattle.pm_model.specs.Authority.{ruling}
 use Rattle.pm_model.specs.Effect.{effect}
 use Rattle.pm_model.specs.Events.{obliging, raised, responders}
 use Rattle.pm_model.specs.History.{IsReplayed, Machine, state_of}
+use Rattle.pm_model.specs.Recorded.{entries_of}
 use Rattle.pm_model.specs.declared.events.Event.{Event}
+use Rattle.pm_model.specs.declared.memory.Memory.{Memory}
 use Rattle.pm_model.specs.declared.obligations.Obligation.{Obligation}
 use Rattle.pm_model.specs.declared.replies.Refusal.{Refusal}
+use Rattle.pm_model.specs.declared.replies.Reply.{Reply}
 use Rattle.pm_model.specs.declared.requests.Body.TheVariants.{Admin}
 use Rattle.pm_model.specs.declared.requests.Change.{Change}
 use Rattle.pm_model.specs.declared.requests.Command.{Command}
 use Rattle.pm_model.specs.declared.requests.Entry.{Entry}
 use Rattle.pm_model.specs.declared.requests.Request.{Request}
+use Rattle.pm_affect.specs.Changes.{changes_entered}
 use Rattle.pm_affect.specs.Counting.{capped, count_on, judged_by, judged_entered, judged_for, judged_granted, judged_in, judged_responded}
-use Rattle.pm_affect.proofs.Counting.{count-none, judged-on, judged_alone}
+use Rattle.pm_affect.proofs.Counting.{count-none, entered-more, judged-on, judged_alone, over-both}
+use Rattle.pm_machine.specs.Answered.{HasAnswered}
+use Rattle.pm_machine.specs.declared.versions.Stepped.{Stepped}
+use Rattle.pm_machine.specs.declared.versions.Stepped.TheVariants.{Accepted, Answered}
 use Rattle.pm_runner.specs.Standing.{StandAt, without}
 use Rattle.pm_state.specs.Drafted.{Drafted}
+use Rattle.pm_step.specs.Counted.{HasCounted, HasCountedFrom, if_next}
 use Rattle.pm_step.specs.Responders.{items_at, withdrawn}
+use Rattle.pm_step.specs.Steps.{IsStepFrom}
 use Rattle.pm_step.proofs.Placed.{items-at-is, obliging-is}
 
 -- a command, by which the state isn't ahead
 pub judged-admin : (S : State) (request : Request) (q : ℕ) (command : Command) → is_ahead request.after S.version ≡ false → request.body ≡ Admin q command →
     judged_by S request ≡ count_on (acting S.graph q) (λ u. count_on (ruling S.graph u (Some q) command) (λ c. judged_entered S (raised S.graph u q c) c))
-judged-admin S request q command ahead is = rw (ahead, is) refl
+judged-admin S request q command ahead is =
+    rw (ahead, is)
+    (over-both (acting S.graph q) (λ u. ruling S.graph u (Some q) command) (λ u c. changes_entered S (raised S.graph u q c) c))
 
 -- where none responds, what is judged for the change
 pub judged-unanswered : (S : State) (e : Option Event) (c : Change) → responders S.graph (obliging S.graph c) e ≡ [] →
@@ -33,7 +45,8 @@ judged-unanswered S None c none = judged_alone S c
 judged-unanswered S (Some e) c none =
     let nothing = count-none (effect S.graph c) in
     let alone : judged_for S.graph c + count_on (effect S.graph c) (λ G. 0) ≡ judged_for S.graph c = omega (arith, nothing) in
-    ap (λ (os : List Obligation). judged_for S.graph c + count_on (effect S.graph c) (λ G. judged_responded S (Some e) os G)) none ∙ alone
+    entered-more S (Some e) c
+    ∙ ap (λ (os : List Obligation). judged_for S.graph c + count_on (effect S.graph c) (λ G. judged_responded S (Some e) os G)) none ∙ alone
 
 -- a change in a draft of the state, to which nothing responds
 pub alone-counted : (before asked more all : ℕ) → asked ≡ capped (capped before + more) → all ≡ more → capped asked ≡ capped (before + all)
@@ -53,7 +66,8 @@ module _ (S : State) (e : Event) (H : Graph) (places : List ℕ) where
       capped (asked + judged_responded S (Some e) these H) ≡ capped (before + all)
   change-counted c before asked all done stand is whole =
       let sum : judged_entered S (Some e) c ≡ judged_for G c + judged_responded S (Some e) these H =
-      ap (λ (r : Result Graph Refusal). judged_for G c + count_on r (λ K. judged_responded S (Some e) (responders G (obliging G c) (Some e)) K)) done
+      entered-more S (Some e) c
+      ∙ ap (λ (r : Result Graph Refusal). judged_for G c + count_on r (λ K. judged_responded S (Some e) (responders G (obliging G c) (Some e)) K)) done
       ∙ ap (λ (os : List Obligation). judged_for G c + judged_responded S (Some e) (responders G os (Some e)) H) (obliging-is G c)
       ∙ ap (λ (os : List Obligation). judged_for G c + judged_responded S (Some e) os H)
       (sym (items-at-is G.obligations (responders G (without (withdrawn c) G.obligations) (Some e)) places stand)) in
@@ -84,3 +98,23 @@ done-counted old new more is = omega (arith, is)
 
 pub skipped-counted : (old more : ℕ) → more ≡ 0 → capped old ≡ capped (old + more)
 skipped-counted old more none = omega (arith, none)
+
+-- ---- an answer
+
+entries-counted : (M : Machine) (entry : Entry) (next : Option State) → IsReplayed M →
+    judged_in (M.history ++ entries_of next entry) ≡ judged_in M.history + if_next next (judged_by (state_of M) entry.request)
+entries-counted M entry (Some next) replayed = judged-on M entry replayed
+entries-counted M entry None replayed = rw (append-nil M.history) (omega arith)
+
+pub answer_counted : (old new : Machine) (entry : Entry) (told : Reply) → IsReplayed old → HasAnswered old new entry told → HasCounted old new entry.request
+answer_counted old new entry told replayed h =
+    ap judged_in h.history ∙ entries-counted old entry (answer (state_of old) entry.request).next replayed
+
+pub step_counted : (old : Machine) (entry : Entry) (stepped : Stepped Machine) → IsReplayed old → IsStepFrom old entry stepped → HasCountedFrom old entry.request stepped
+step_counted old entry (Accepted new told) replayed h = ap judged_in h.1 ∙ judged-on old entry replayed
+step_counted old entry (Answered told) replayed h = tt
+
+pub if-counted : (old new : Machine) (entry : Entry) (result : Result Reply Memory) → IsReplayed old → IfOk result (HasAnswered old new entry) →
+    OnOk result (HasCounted old new entry.request)
+if-counted old new entry (Ok told) replayed h = answer_counted old new entry told replayed h
+if-counted old new entry (Err why) replayed h = tt

@@ -1,5 +1,5 @@
 -- Those that respond, by their places in a list of obligations.
-use Rattle.std.specs.Prelude.{◌≡◌, ◌⊎◌, ℕ, ◌<◌, List, [], ◌∷◌, length, Option, None, Some, Result, Ok, slice_get, All, Contains}
+use Rattle.std.specs.Prelude.{◌≡◌, ℕ, ◌<◌, Bool, List, [], ◌∷◌, length, Option, None, Some, slice_get, All, Contains}
 use Rattle.pm_model.specs.State.{Graph}
 use Rattle.pm_model.specs.declared.obligations.Obligation.{Obligation}
 use Rattle.pm_model.specs.declared.requests.Change.{Change}
@@ -29,11 +29,8 @@ abbrev pub withdrawn : Change → Option ℕ
 withdrawn (change.Withdraw i) = Some i
 withdrawn _ = None
 
--- what is responded to, and the draft as it is now
+-- what is responded to, the draft as it is now, and whether memory was wanting for an action
 pub record Underway : Type 0 where
   pub occasion : Occasion
   pub draft : Drafted
-
--- after an error the draft is as it was, or what was to be done in it is done
-abbrev pub IsLeftBy : {E : Type 0} → Drafted → Drafted → Result Graph E → Type 0
-IsLeftBy old new came = (new ≡ old) ⊎ (came ≡ Ok new.graph)
+  pub short : Bool

@@ -1,6 +1,7 @@
 //! One request is the machine's answer.
 #![tactic(auto)]
 
+mod counting;
 mod edition;
 mod entries;
 mod looking;
@@ -12,6 +13,7 @@ mod settling;
 mod solo;
 mod steps;
 
+pub use counting::answer_counted;
 pub use edition::Edition;
 pub use looking::glance;
 pub use solo::Solo;

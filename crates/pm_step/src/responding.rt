@@ -1,11 +1,11 @@
 //! The responses of obligations, run in a draft.
-ghost use Rattle.std.specs.Prelude.{◌≡◌, ◌+◌, ◌≤◌, length, Ok, OnOk, OnErr, IfOk, IfErr};
+ghost use Rattle.std.specs.Prelude.{◌≡◌, ◌+◌, ◌≤◌, length, Ok, OnOk, IfOk, IfErr};
 ghost use Rattle.pm_model.specs.Formed.{IsUser};
 ghost use Rattle.pm_model.specs.Obligations.{max_obligations};
 ghost use Rattle.pm_model.specs.Responses.{acted, commanded, responses};
 ghost use Rattle.pm_affect.specs.Counting.{capped, judged_acted, judged_commanded, judged_responses};
-ghost use Rattle.pm_runner.specs.Outcomes.{IsRefusal, IsStop};
-ghost use Rattle.pm_step.specs.Responders.{AreResponders, IsLeftBy, items_at};
+ghost use Rattle.pm_runner.specs.Outcomes.{IsLeft, IsRefusal, IsStop, wants_memory};
+ghost use Rattle.pm_step.specs.Responders.{AreResponders, items_at};
 
 use pm_admin::{all_hold, permit};
 use pm_model::{Action, ChangeError, Command, ElementId, EventNames, Memory, Place};
@@ -19,7 +19,7 @@ fn give(draft: &mut Draft, author: ElementId, command: &Command) -> Result<(), A
     requires { IsUser draft.old.graph.elements author }
     ensures ok { OnOk result (commanded draft.old.graph author command.now ≡ Ok draft.new.graph) }
     ensures refused { IfErr result (IsRefusal (commanded draft.old.graph author command.now)) }
-    ensures err { OnErr result (IsLeftBy draft.old draft.new (commanded draft.old.graph author command.now)) }
+    ensures err { IfErr result (IsLeft draft.old.graph draft.new.graph (commanded draft.old.graph author command.now)) }
     ensures history { draft.new.history ≡ draft.old.history }
     ensures judged { OnOk result (draft.new.asked ≡ capped (draft.old.asked + judged_commanded draft.old.graph author command.now)) }
 {
@@ -47,7 +47,7 @@ fn act_by(
     requires { IsUser draft.old.graph.elements author }
     ensures ok { OnOk result (acted names.now version draft.old.graph author place action.now ≡ Ok draft.new.graph) }
     ensures refused { IfErr result (IsRefusal (acted names.now version draft.old.graph author place action.now)) }
-    ensures err { OnErr result (IsLeftBy draft.old draft.new (acted names.now version draft.old.graph author place action.now)) }
+    ensures err { IfErr result (IsLeft draft.old.graph draft.new.graph (acted names.now version draft.old.graph author place action.now)) }
     ensures history { draft.new.history ≡ draft.old.history }
     ensures judged { OnOk result (capped draft.new.asked ≡ capped (draft.old.asked + judged_acted names.now version draft.old.graph author place action.now)) }
 {
@@ -63,6 +63,12 @@ fn act_by(
     }
 }
 
+fn wants_memory(done: &Result<(), ActError>) -> bool
+    ensures { result ≡ wants_memory done.now }
+{
+    matches!(done, Err(ActError::Memory))
+}
+
 /// A draft in which the obligations at these places respond. They stand in its graph, since no action
 /// withdraws one: so each author is a live user. Contracts see what they respond to, and the draft.
 struct Responding<'a> {
@@ -73,6 +79,8 @@ struct Responding<'a> {
     names: EventNames,
     /// The version that the entry will have.
     version: u64,
+    /// Whether memory was wanting for an action.
+    short: bool,
 }
 
 impl<'a> Drop for Responding<'a> {
@@ -83,6 +91,7 @@ impl<'a> Drop for Responding<'a> {
             places: _,
             names: _,
             version: _,
+            short: _,
         } = self;
     }
 }
@@ -92,7 +101,7 @@ impl<'a> Model for Responding<'a> {
 
     ghost Value = { Underway };
 
-    ghost view = { λ s. record { occasion = record { names = s.names; version = s.version; obligations = items_at s.obligations.now.items s.places.now }; draft = s.draft } };
+    ghost view = { λ s. record { occasion = record { names = s.names; version = s.version; obligations = items_at s.obligations.now.items s.places.now }; draft = s.draft; short = s.short } };
 
     ghost invariant = { λ s. AreResponders s.obligations.now.items s.places.now s.draft.graph };
 }
@@ -107,6 +116,7 @@ impl<'a> Responding<'a> {
             places: _,
             names: _,
             version: _,
+            short: _,
         } = self;
         draft
     }
@@ -121,20 +131,24 @@ impl<'a> Acts for Responding<'a> {
 
     ghost judged = { λ s. s.draft.asked };
 
+    ghost short = { λ s. s.short };
+
     fn act(&mut self, place: Place) -> Result<(), ActError> {
         self.draft.graph().formed();
         let at = *self.places.at(place.obligation as usize - 1);
         let obligation = self.obligations.at(at as usize);
         let actions = obligation.response.actions();
         let action = actions.at(place.action as usize - 1);
-        act_by(
+        let done = act_by(
             &mut self.draft,
             obligation.author,
             action,
             &self.names,
             self.version,
             place,
-        )
+        );
+        self.short = self.short || wants_memory(&done);
+        done
     }
 }
 
@@ -160,6 +174,7 @@ pub(crate) fn respond(
         places,
         names,
         version,
+        short: false,
     };
     match run_responses(&mut acts, obligations, places) {
         Ok(()) => Ok(acts.into_draft()),

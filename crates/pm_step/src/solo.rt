@@ -1,5 +1,6 @@
 //! The machine with one caller.
 ghost use Rattle.std.specs.Prelude.{◌≡◌};
+ghost use Rattle.pm_affect.specs.Counting.{capped, judged_in};
 
 use crate::steps::advance;
 use pm_machine::Answerer;
@@ -47,6 +48,13 @@ impl Solo {
         ensures { result.now ≡ self.now }
     {
         &self.state
+    }
+
+    /// How many rights it has judged for kept reviews, up to 2^64 - 1: what an answer adds, `answer_counted` tells.
+    pub fn asked(&self) -> u64
+        ensures { result ≡ capped (judged_in self.now.history) }
+    {
+        self.state.asked()
     }
 }
 

@@ -1,5 +1,5 @@
 //! One request as a step: in place, or from one state to the next.
-ghost use Rattle.std.specs.Prelude.{◌≡◌, length, nat_lt, None, Some, IfOk, IsOk, OnErr, true};
+ghost use Rattle.std.specs.Prelude.{◌≡◌, length, nat_lt, None, Some, IfOk, IsOk, OnOk, OnErr, true};
 ghost use Rattle.pm_model.specs.Answer.{entered, granted, proposed};
 ghost use Rattle.pm_model.specs.Events.{responders};
 ghost use Rattle.pm_model.specs.Formed.{IsNamed};
@@ -10,6 +10,7 @@ ghost use Rattle.pm_pattern.specs.Live.{IsEventLive};
 ghost use Rattle.pm_state.specs.Containing.{relation_in};
 ghost use Rattle.pm_state.specs.Leaving.{LeavesReviews};
 ghost use Rattle.pm_machine.specs.Answered.{HasAnswered};
+ghost use Rattle.pm_step.specs.Counted.{HasCounted, HasCountedFrom};
 ghost use Rattle.pm_step.specs.Steps.{IsStepFrom};
 ghost use Rattle.pm_machine.specs.Asking.{asks_freely, none_responded};
 ghost use Rattle.pm_step.specs.Proposed.{event_by, IsActorLive};
@@ -145,12 +146,9 @@ fn grant(
     Ok(Reply::Granted { fired: 0 })
 }
 
-/// The machine's answer to a request in this state, which goes on by it. Where the request is accepted, the
-/// state has it as the entry of this seat with this number. Where it isn't, and on Memory, the state is as
-/// before; `version` never answers Memory, nor does an access to which no obligation responds. A `survey` may
-/// start threads, which end within the call.
+// The answer to a request, by which the state goes on.
 #[tactic(auto, using(crate::proofs::Glancing::free_asks))]
-pub fn advance<R: Threads + Sync>(
+fn answered<R: Threads + Sync>(
     rt: &R,
     state: &mut State,
     seat: u32,
@@ -172,6 +170,28 @@ pub fn advance<R: Threads + Sync>(
     }
 }
 
+/// The machine's answer to a request in this state, which goes on by it. Where the request is accepted, the
+/// state has it as the entry of this seat with this number. Where it isn't, and on Memory, the state is as
+/// before; `version` never answers Memory, nor does an access to which no obligation responds. A `survey` may
+/// start threads, which end within the call.
+///
+/// What it adds to the count of rights judged for kept reviews is what the changes of its entry ask about.
+pub fn advance<R: Threads + Sync>(
+    rt: &R,
+    state: &mut State,
+    seat: u32,
+    nth: u64,
+    request: &Request,
+) -> Result<Reply, Memory>
+    ensures ok { IfOk result (HasAnswered state.old state.new (record { seat = seat; nth = nth; request = request.now })) }
+    ensures judged { OnOk result (HasCounted state.old state.new request.now) }
+    ensures err { OnErr result (state.new ≡ state.old) }
+    ensures free { asks_freely request.now.body ≡ true → none_responded (proposed (state_of state.old) request.now).reply ≡ true → IsOk result }
+{
+    state.replayed();
+    answered(rt, state, seat, nth, request)
+}
+
 /// The machine's answer to a request in this state, which stays: [`advance`] on a copy of it. The copy shares
 /// the pages and entries that the state lets copies share, so that it costs little once `State::share` was
 /// called. A `survey` may start threads, which end within the call.
@@ -182,8 +202,10 @@ pub fn step<R: Threads + Sync>(
     nth: u64,
     request: &Request,
 ) -> Result<Stepped<State>, Memory>
-    ensures { IfOk result (IsStepFrom state.now (record { seat = seat; nth = nth; request = request.now })) }
+    ensures ok { IfOk result (IsStepFrom state.now (record { seat = seat; nth = nth; request = request.now })) }
+    ensures judged { IfOk result (HasCountedFrom state.now request.now) }
 {
+    state.replayed();
     let mut next = state.copy()?;
     let reply = advance(rt, &mut next, seat, nth, request)?;
     if next.version() == state.version() {

@@ -6,6 +6,7 @@ ghost use Rattle.std.specs.Int.{bit_at};
 use pm_assoc::*;
 use pm_model::{ChangeError, ElementId, Grants, Memory, Refusal, Rights, Table};
 use std::alloc::Global;
+use std::process::Abort;
 use std::test::Fail;
 
 /// A user attribute, the rights that it has, and on what.
@@ -52,18 +53,23 @@ fn rows_of(alloc: Global, table: &Assoc) -> Result<Vec<Row>, Memory> {
     Ok(rows)
 }
 
+fn rows_are(
+    rt: &(impl Abort + Alloc<A = Global>),
+    table: &Assoc,
+    want: &[Row],
+) -> Result<(), Memory> {
+    let rows = rows_of(rt.alloc(), table)?;
+    assert_eq!(rt; rows.as_slice(), want);
+    Ok(())
+}
+
 #[test]
 fn stand_by_attribute_in_order_of_creation(rt: HostRuntime) -> Result<(), Fail> {
-    let table = table_of(
-        rt.alloc(),
-        &[(5, 1, 1), (2, 2, 9), (9, 3, 3), (2, 4, 4), (5, 5, 0)],
-    )?;
-    let rows = rows_of(rt.alloc(), &table)?;
-    assert_eq!(rt;
-        rows.as_slice(),
-        [(2, 2, 9), (2, 4, 4), (5, 1, 1), (5, 5, 0), (9, 3, 3)].as_slice()
-    );
+    let made = [(5, 1, 1), (2, 2, 9), (9, 3, 3), (2, 4, 4), (5, 5, 0)];
+    let table = table_of(rt.alloc(), &made)?;
     assert_eq!(rt; table.len(), 5);
+    let want = [(2, 2, 9), (2, 4, 4), (5, 1, 1), (5, 5, 0), (9, 3, 3)];
+    rows_are(&rt, &table, &want)?;
     Ok(())
 }
 
@@ -100,46 +106,62 @@ fn words_tell_who_has_associations(rt: HostRuntime) -> Result<(), Fail> {
     Ok(())
 }
 
-#[test]
-fn those_behind_a_change_are_found(rt: HostRuntime) -> Result<(), Fail> {
-    let mut table = table_of(rt.alloc(), &ENDS)?;
+/// Associations that stand before others and behind them, at ends of words.
+fn change_ends(table: &mut Assoc) -> Result<(), AssocError> {
     table.dissociate(ElementId(0), ElementId(1))?;
     table.associate(ElementId(70), Rights(2), ElementId(1))?;
     table.associate(ElementId(62), Rights(4), ElementId(1))?;
-    table.dissociate(ElementId(64), ElementId(1))?;
-    let rows = rows_of(rt.alloc(), &table)?;
-    assert_eq!(rt;
-        rows.as_slice(),
-        [
-            (62, 4, 1),
-            (63, 1, 1),
-            (63, 1, 2),
-            (70, 2, 1),
-            (16383, 1, 1)
-        ]
-        .as_slice()
-    );
+    table.dissociate(ElementId(64), ElementId(1))
+}
+
+#[test]
+fn those_behind_a_change_are_found(rt: HostRuntime) -> Result<(), Fail> {
+    let mut table = table_of(rt.alloc(), &ENDS)?;
+    change_ends(&mut table)?;
+    let want = [
+        (62, 4, 1),
+        (63, 1, 1),
+        (63, 1, 2),
+        (70, 2, 1),
+        (16383, 1, 1),
+    ];
+    rows_are(&rt, &table, &want)?;
     Ok(())
+}
+
+/// A table and its copy.
+#[derive(Drop)]
+struct Both {
+    table: Assoc,
+    copy: Assoc,
+}
+
+fn copied(mut table: Assoc) -> Result<Both, Memory> {
+    table.share()?;
+    let copy = table.copy()?;
+    Ok(Both { table, copy })
+}
+
+/// Takes an association from the one table, and gives the copy two others.
+fn part(both: &mut Both) -> Result<(), AssocError> {
+    both.table.dissociate(ElementId(2), ElementId(9))?;
+    both.copy.associate(ElementId(5), Rights(1), ElementId(1))?;
+    both.copy.associate(ElementId(2), Rights(3), ElementId(8))
 }
 
 #[test]
 fn copies_go_apart(rt: HostRuntime) -> Result<(), Fail> {
-    let mut table = table_of(rt.alloc(), &[(2, 1, 9), (2, 6, 4)])?;
-    table.share()?;
-    let mut copy = table.copy()?;
-    table.dissociate(ElementId(2), ElementId(9))?;
-    copy.associate(ElementId(5), Rights(1), ElementId(1))?;
-    copy.associate(ElementId(2), Rights(3), ElementId(8))?;
-    let rows = rows_of(rt.alloc(), &table)?;
-    let copied = rows_of(rt.alloc(), &copy)?;
-    assert_eq!(rt; rows.as_slice(), [(2, 6, 4)].as_slice());
-    assert!(rt; table.names(ElementId(4)));
-    assert!(rt; !table.names(ElementId(9)));
-    assert_eq!(rt;
-        copied.as_slice(),
-        [(2, 1, 9), (2, 6, 4), (2, 3, 8), (5, 1, 1)].as_slice()
-    );
-    assert_eq!(rt; table.len(), 1);
-    assert_eq!(rt; copy.len(), 4);
+    let table = table_of(rt.alloc(), &[(2, 1, 9), (2, 6, 4)])?;
+    let mut both = copied(table)?;
+    part(&mut both)?;
+    assert!(rt; both.table.names(ElementId(4)));
+    assert!(rt; !both.table.names(ElementId(9)));
+    assert_eq!(rt; (both.table.len(), both.copy.len()), (1, 4));
+    rows_are(&rt, &both.table, &[(2, 6, 4)])?;
+    rows_are(
+        &rt,
+        &both.copy,
+        &[(2, 1, 9), (2, 6, 4), (2, 3, 8), (5, 1, 1)],
+    )?;
     Ok(())
 }

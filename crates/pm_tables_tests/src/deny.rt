@@ -65,6 +65,20 @@ fn names_of(alloc: Global, list: &Deny) -> Result<Vec<u8>, Memory> {
     Ok(names)
 }
 
+fn names_are(
+    rt: &(impl Abort + Alloc<A = Global>),
+    list: &Deny,
+    want: &[u8],
+) -> Result<(), Memory> {
+    let names = names_of(rt.alloc(), list)?;
+    assert_eq!(rt; names.as_slice(), want);
+    Ok(())
+}
+
+fn places_are(rt: &impl Abort, places: &PlaceList, want: &[ElementId]) {
+    assert_eq!(rt; places.as_slice(), want);
+}
+
 /// Ends these processes.
 fn end(list: &mut Deny, ended: &[u32]) -> Result<(), Memory> {
     list.own_processes(ended)?;
@@ -81,28 +95,44 @@ const ROWS: [Row; 6] = [
     ("f", Subject::Process(11), 1, &[3], &[]),
 ];
 
+fn six(rt: &(impl Abort + Alloc<A = Global>)) -> Result<Deny, DenyError> {
+    list_of(rt, &ROWS)
+}
+
 #[test]
-fn prohibitions_come_and_go(rt: HostRuntime) -> Result<(), Fail> {
-    let mut list = list_of(&rt, &ROWS)?;
+fn elements_are_named(rt: HostRuntime) -> Result<(), Fail> {
+    let list = six(&rt)?;
     assert!(rt; list.names(ElementId(9)));
     assert!(rt; !list.names(ElementId(11)), "a process is no element");
+    Ok(())
+}
+
+#[test]
+fn a_name_is_taken_once(rt: HostRuntime) -> Result<(), Fail> {
+    let list = six(&rt)?;
     let taken = item_of(&rt, &("c", Subject::Process(1), 1, &[], &[]))?;
     assert_eq!(rt; list.check_prohibit(&taken), Err(DenyError::NameTaken));
-    let c = named(&rt, "c");
+    Ok(())
+}
+
+/// Lifts the prohibition on process 2.
+fn lift_c(rt: &impl Abort, list: &mut Deny) -> Result<(), DenyError> {
+    let c = named(rt, "c");
     assert_eq!(rt; list.find(c), Some(2));
     let lifted = list.lift(c)?;
     assert!(rt; lifted.name == c);
-    assert_eq!(rt;
-        lifted.exc.as_slice(),
-        [ElementId(7), ElementId(8)].as_slice()
-    );
-    assert_eq!(rt;
-        names_of(rt.alloc(), &list)?.as_slice(),
-        b"abdef".as_slice()
-    );
-    assert_eq!(rt; list.find(c), None);
+    places_are(rt, &lifted.exc, &[ElementId(7), ElementId(8)]);
+    assert!(rt; list.find(c).is_none());
+    Ok(())
+}
+
+#[test]
+fn prohibitions_come_and_go(rt: HostRuntime) -> Result<(), Fail> {
+    let mut list = six(&rt)?;
+    lift_c(&rt, &mut list)?;
+    names_are(&rt, &list, b"abdef")?;
     end(&mut list, &[11, 1, 2, 3])?;
-    assert_eq!(rt; names_of(rt.alloc(), &list)?.as_slice(), b"bd".as_slice());
+    names_are(&rt, &list, b"bd")?;
     Ok(())
 }
 
@@ -155,27 +185,41 @@ fn the_first_of_two_applies(rt: HostRuntime) -> Result<(), Fail> {
     Ok(())
 }
 
-#[test]
-fn a_copy_is_another_list(rt: HostRuntime) -> Result<(), Fail> {
-    let mut list = list_of(&rt, &ROWS)?;
+/// A list and its copy.
+#[derive(Drop)]
+struct Both {
+    list: Deny,
+    copy: Deny,
+}
+
+fn copied(mut list: Deny) -> Result<Both, Memory> {
     list.share()?;
-    let mut copy = list.copy()?;
-    let place = list.find(named(&rt, "a")).expect(&rt, "a place");
+    let copy = list.copy()?;
+    Ok(Both { list, copy })
+}
+
+/// Lifts the first prohibition of the one list.
+fn lift_first(rt: &impl Abort, list: &mut Deny) -> Result<(), Memory> {
+    let place = list.find(named(rt, "a")).expect(rt, "a place");
     let first = list.lift_at(place)?;
     assert!(rt; first.subject == Subject::Process(1));
-    assert_eq!(rt;
-        names_of(rt.alloc(), &list)?.as_slice(),
-        b"bcdef".as_slice()
-    );
-    assert_eq!(rt;
-        names_of(rt.alloc(), &copy)?.as_slice(),
-        b"abcdef".as_slice()
-    );
-    let third = copy.lift(named(&rt, "c"))?;
-    assert_eq!(rt;
-        third.inc.as_slice(),
-        [ElementId(5), ElementId(6)].as_slice()
-    );
+    Ok(())
+}
+
+/// Lifts the third prohibition of the other.
+fn lift_third(rt: &impl Abort, copy: &mut Deny) -> Result<(), DenyError> {
+    let third = copy.lift(named(rt, "c"))?;
+    places_are(rt, &third.inc, &[ElementId(5), ElementId(6)]);
+    Ok(())
+}
+
+#[test]
+fn a_copy_is_another_list(rt: HostRuntime) -> Result<(), Fail> {
+    let mut both = copied(six(&rt)?)?;
+    lift_first(&rt, &mut both.list)?;
+    names_are(&rt, &both.list, b"bcdef")?;
+    names_are(&rt, &both.copy, b"abcdef")?;
+    lift_third(&rt, &mut both.copy)?;
     Ok(())
 }
 

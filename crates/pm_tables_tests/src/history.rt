@@ -1,5 +1,7 @@
 //! Histories with answers worked out by hand.
 
+ghost use Rattle.std.specs.Prelude.{◌<◌};
+
 use pm_history::*;
 use pm_model::{Body, Entry, Name, Request};
 use std::alloc::Global;
@@ -28,95 +30,135 @@ fn at(history: &History, i: u64) -> Option<(u32, u64)> {
     Some((entry.seat, entry.nth))
 }
 
+/// What stands at the first three places.
+fn first_three(history: &History) -> [Option<(u32, u64)>; 3] {
+    [at(history, 0), at(history, 1), at(history, 2)]
+}
+
 #[test]
 fn the_third_of_two_is_full(rt: HostRuntime) {
     let mut history = History::new(rt.alloc(), 2);
-    assert_eq!(rt; history.push(end_of(4, 1, 7)), Ok(()));
-    assert_eq!(rt; history.push(end_of(3, 1, 8)), Ok(()));
-    assert_eq!(rt; history.push(end_of(4, 2, 9)), Err(HistoryError::Full));
-    assert_eq!(rt; history.len(), 2);
-    assert_eq!(rt; history.limit(), 2);
-    assert_eq!(rt; at(&history, 0), Some((4, 1)));
-    assert_eq!(rt; at(&history, 1), Some((3, 1)));
-    assert_eq!(rt; at(&history, 2), None);
+    let first = history.push(end_of(4, 1, 7));
+    let second = history.push(end_of(3, 1, 8));
+    assert!(rt; first.is_ok() && second.is_ok());
+    let third = history.push(end_of(4, 2, 9));
+    assert!(rt; third == Err(HistoryError::Full));
+    assert!(rt; history.len() == 2 && history.limit() == 2);
+    assert_eq!(rt; first_three(&history), [Some((4, 1)), Some((3, 1)), None]);
 }
 
 #[test]
 fn limit_0_takes_none(rt: HostRuntime) {
     let mut history = History::new(rt.alloc(), 0);
-    assert_eq!(rt; history.push(end_of(4, 1, 7)), Err(HistoryError::Full));
-    assert_eq!(rt; history.len(), 0);
-    assert_eq!(rt; at(&history, 0), None);
+    assert!(rt; history.push(end_of(4, 1, 7)) == Err(HistoryError::Full));
+    assert!(rt; history.len() == 0);
+    assert!(rt; history.get(0).is_none());
 }
 
-#[test]
-fn get_gives_seat_number_and_request(rt: HostRuntime) -> Result<(), Fail> {
-    let ann = named(&rt, "ann");
-    let mut history = History::new(rt.alloc(), 262144);
+/// Ends process 7, and then opens a session of the user.
+fn two_requests(alloc: Global, user: Name) -> Result<History, HistoryError> {
+    let mut history = History::new(alloc, 262144);
     history.push(end_of(4, 1, 7))?;
     history.push(Entry {
         seat: 3,
         nth: 5,
         request: Request {
             after: Some(6),
-            body: Body::OpenSession { user: ann },
+            body: Body::OpenSession { user },
         },
     })?;
-    let entry = history.get(1).expect(&rt, "an entry");
-    assert_eq!(rt; entry.seat, 3);
-    assert_eq!(rt; entry.nth, 5);
-    assert_eq!(rt; entry.request.after, Some(6));
-    assert!(rt; matches!(&entry.request.body, Body::OpenSession { user } if *user == ann));
-    let first = history.get(0).expect(&rt, "an entry");
-    assert_eq!(rt; first.request.after, None);
-    assert!(rt; matches!(&first.request.body, Body::EndProcess { process: 7 }));
+    Ok(history)
+}
+
+fn check_opening(rt: &impl Abort, entry: &Entry, ann: &Name) {
+    let request = &entry.request;
+    assert_eq!(rt; (entry.seat, entry.nth, request.after), (3, 5, Some(6)));
+    assert!(rt; matches!(&request.body, Body::OpenSession { user } if user == ann));
+}
+
+#[test]
+fn get_gives_seat_number_and_request(rt: HostRuntime) -> Result<(), Fail> {
+    let ann = named(&rt, "ann");
+    let history = two_requests(rt.alloc(), ann)?;
+    check_opening(&rt, history.get(1).expect(&rt, "an entry"), &ann);
+    let first = &history.get(0).expect(&rt, "an entry").request;
+    assert!(rt; first.after.is_none());
+    assert!(rt; matches!(&first.body, Body::EndProcess { process: 7 }));
     Ok(())
+}
+
+/// A history and its copy.
+#[derive(Drop)]
+struct Both {
+    history: History,
+    copy: History,
+}
+
+/// Both begin with one entry. One goes on with another, its copy with two.
+fn copied_after_one(alloc: Global) -> Result<Both, Fail> {
+    let mut history = History::new(alloc, 3);
+    history.push(end_of(4, 1, 7))?;
+    let copy = history.copy()?;
+    history.push(end_of(3, 1, 8))?;
+    Ok(Both { history, copy })
+}
+
+/// Puts two entries of seat 5 behind the others.
+fn push_two(history: &mut History) -> Result<(), HistoryError> {
+    history.push(end_of(5, 1, 9))?;
+    history.push(end_of(5, 2, 9))
 }
 
 #[test]
 fn a_copy_is_another_history(rt: HostRuntime) -> Result<(), Fail> {
-    let mut history = History::new(rt.alloc(), 3);
-    history.push(end_of(4, 1, 7))?;
-    let mut copy = history.copy()?;
-    history.push(end_of(3, 1, 8))?;
-    assert_eq!(rt; copy.len(), 1);
-    assert_eq!(rt; copy.limit(), 3);
-    copy.push(end_of(5, 1, 9))?;
-    copy.push(end_of(5, 2, 9))?;
-    assert_eq!(rt; history.len(), 2);
-    for (i, one, other) in [
-        (0, Some((4, 1)), Some((4, 1))),
-        (1, Some((3, 1)), Some((5, 1))),
-        (2, None, Some((5, 2))),
-    ] {
-        assert_eq!(rt; at(&history, i), one, "at {i}");
-        assert_eq!(rt; at(&copy, i), other, "at {i} of the copy");
-    }
+    let mut both = copied_after_one(rt.alloc())?;
+    assert!(rt; both.copy.len() == 1 && both.copy.limit() == 3);
+    push_two(&mut both.copy)?;
+    assert!(rt; both.history.len() == 2);
+    assert_eq!(rt;
+        first_three(&both.history),
+        [Some((4, 1)), Some((3, 1)), None]
+    );
+    assert_eq!(rt;
+        first_three(&both.copy),
+        [Some((4, 1)), Some((5, 1)), Some((5, 2))]
+    );
     Ok(())
+}
+
+/// A history whose only entry is taken back out once it is copied.
+fn one_let_go(alloc: Global) -> Result<Both, Fail> {
+    let mut history = History::new(alloc, 1);
+    history.push(end_of(4, 1, 7))?;
+    let copy = history.copy()?;
+    history.take_back();
+    Ok(Both { history, copy })
 }
 
 #[test]
 fn a_copy_keeps_what_the_original_lets_go(rt: HostRuntime) -> Result<(), Fail> {
-    let mut history = History::new(rt.alloc(), 1);
-    history.push(end_of(4, 1, 7))?;
-    let copy = history.copy()?;
-    history.take_back();
-    assert_eq!(rt; history.len(), 0);
+    let Both { history, copy } = one_let_go(rt.alloc())?;
+    assert!(rt; history.len() == 0);
     drop(history);
     assert_eq!(rt; at(&copy, 0), Some((4, 1)));
     Ok(())
 }
 
-#[test]
-fn take_back_leaves_the_others(rt: HostRuntime) -> Result<(), Fail> {
-    let mut history = History::new(rt.alloc(), 2);
+/// A history of two entries, of which the second is taken back out.
+fn taken_back(alloc: Global) -> Result<History, HistoryError> {
+    let mut history = History::new(alloc, 2);
     history.push(end_of(4, 1, 7))?;
     history.push(end_of(3, 1, 8))?;
     history.take_back();
-    assert_eq!(rt; history.len(), 1);
-    assert_eq!(rt; at(&history, 0), Some((4, 1)));
-    assert_eq!(rt; at(&history, 1), None);
-    assert_eq!(rt; history.push(end_of(3, 2, 9)), Ok(()));
+    Ok(history)
+}
+
+#[test]
+fn take_back_leaves_the_others(rt: HostRuntime) -> Result<(), Fail> {
+    let mut history = taken_back(rt.alloc())?;
+    assert!(rt; history.len() == 1);
+    assert_eq!(rt; first_three(&history), [Some((4, 1)), None, None]);
+    history.push(end_of(3, 2, 9))?;
     assert_eq!(rt; at(&history, 1), Some((3, 2)));
     Ok(())
 }
@@ -130,39 +172,71 @@ fn history_of(alloc: Global, count: u64) -> Result<History, HistoryError> {
     Ok(history)
 }
 
+/// So many entries in both, but that the copy has another in the place of the last. Each then goes on with one of its own.
+fn apart(alloc: Global, count: u64) -> Result<Both, Fail> {
+    let mut history = history_of(alloc, count)?;
+    history.share()?;
+    let mut copy = history.copy()?;
+    history.push(end_of(3, 1, 8))?;
+    if copy.len() > 0 {
+        copy.take_back();
+    }
+    push_two(&mut copy)?;
+    Ok(Both { history, copy })
+}
+
+/// What stands at a place of both.
+fn at_both(both: &Both, i: u64) -> (Option<(u32, u64)>, Option<(u32, u64)>) {
+    (at(&both.history, i), at(&both.copy, i))
+}
+
+/// Before the last of the first `count` entries both have the same.
+fn check_first(rt: &impl Abort, both: &Both, i: u64) {
+    let same = Some((4, i));
+    assert_eq!(rt; at_both(both, i), (same, same), "at {i}");
+}
+
+/// From there on each has its own.
+fn check_last(rt: &impl Abort, both: &Both, last: u64, count: u64) {
+    assert_eq!(rt;
+        at_both(both, last),
+        (Some((4, last)), Some((5, 1))),
+        "at {last}"
+    );
+    assert_eq!(rt;
+        at_both(both, count),
+        (Some((3, 1)), Some((5, 2))),
+        "at {count}"
+    );
+}
+
+fn check_ends(rt: &impl Abort, both: &Both, count: u64)
+    requires { count < 2000 }
+{
+    assert!(rt; both.history.len() == count + 1 && both.copy.len() == count + 1);
+    assert_eq!(rt; at_both(both, count + 1), (None, None), "behind {count}");
+}
+
+/// The last two places of so many entries, around the ends of pages.
+const ENDS: [(u64, u64, u64); 8] = [
+    (253, 254, 255),
+    (254, 255, 256),
+    (255, 256, 257),
+    (510, 511, 512),
+    (511, 512, 513),
+    (1021, 1022, 1023),
+    (1022, 1023, 1024),
+    (1023, 1024, 1025),
+];
+
 #[test]
 fn copies_go_apart_across_the_end_of_a_page(rt: HostRuntime) -> Result<(), Fail> {
-    for (before, last, count) in [
-        (253, 254, 255),
-        (254, 255, 256),
-        (255, 256, 257),
-        (510, 511, 512),
-        (511, 512, 513),
-        (1021, 1022, 1023),
-        (1022, 1023, 1024),
-        (1023, 1024, 1025),
-    ] {
-        let mut history = history_of(rt.alloc(), count)?;
-        history.share()?;
-        let mut copy = history.copy()?;
-        history.push(end_of(3, 1, 8))?;
-        if copy.len() > 0 {
-            copy.take_back();
-        }
-        copy.push(end_of(5, 1, 9))?;
-        copy.push(end_of(5, 2, 9))?;
-        assert_eq!(rt; history.len(), count + 1);
-        assert_eq!(rt; copy.len(), count + 1);
-        for (i, one, other) in [
-            (0, Some((4, 0)), Some((4, 0))),
-            (before, Some((4, before)), Some((4, before))),
-            (last, Some((4, last)), Some((5, 1))),
-            (count, Some((3, 1)), Some((5, 2))),
-            (count + 1, None, None),
-        ] {
-            assert_eq!(rt; at(&history, i), one, "at {i} of {count}");
-            assert_eq!(rt; at(&copy, i), other, "at {i} of the copy of {count}");
-        }
+    for (before, last, count) in ENDS {
+        let both = apart(rt.alloc(), count)?;
+        check_first(&rt, &both, 0);
+        check_first(&rt, &both, before);
+        check_last(&rt, &both, last, count);
+        check_ends(&rt, &both, count);
     }
     Ok(())
 }

@@ -107,10 +107,11 @@ fn a_copy_goes_its_own_way(rt: HostRuntime) -> Result<(), Fail> {
     let mut copy = copy_of(&mut table)?;
     set_last(&mut copy, 1, 6, ChangeList::new(rt.alloc()));
     table.drop_review(0);
-    assert_eq!(rt; last(&table, 0), None);
-    assert_eq!(rt; last(&table, 1), Some((5, 1)));
-    assert_eq!(rt; last(&copy, 0), Some((0, 0)));
-    assert_eq!(rt; last(&copy, 1), Some((6, 0)));
+    assert_eq!(rt; (last(&table, 0), last(&copy, 0)), (None, Some((0, 0))));
+    assert_eq!(rt;
+        (last(&table, 1), last(&copy, 1)),
+        (Some((5, 1)), Some((6, 0)))
+    );
     Ok(())
 }
 

@@ -1,8 +1,8 @@
 //! Each call that takes memory, with ample memory: what it answers.
 
 use pm_model::{
-    Body, Command, ElementId, Entry, ItemList, Mode, Name, NameList, PlaceList, Prohibition,
-    Question, Request, Rights, Subject,
+    Body, Command, ElementId, Entry, ItemList, Memory, Mode, Name, NameList, PlaceList,
+    Prohibition, Question, Request, Rights, Subject,
 };
 use std::alloc::Global;
 use std::process::Abort;
@@ -20,84 +20,122 @@ fn names(rt: &(impl Abort + Alloc<A = Global>), texts: &[&str]) -> Result<NameLi
     Ok(list)
 }
 
-#[test]
-fn lists_grow_and_are_copied(rt: HostRuntime) -> Result<(), Fail> {
-    let mut list: ItemList<u8> = ItemList::new(rt.alloc());
+fn is_named(rt: &impl Abort, found: &Name, text: &str) {
+    assert_eq!(rt; found.bytes(), text.as_bytes());
+}
+
+/// The numbers from 3 to 6, two of them put in between.
+fn three_to_six(alloc: Global) -> Result<ItemList<u8>, Memory> {
+    let mut list = ItemList::new(alloc);
     list.push(3)?;
     list.push(5)?;
     list.insert(1, 4)?;
     list.insert(3, 6)?;
-    let same = list.copy()?;
-    assert_eq!(rt; same.as_slice(), [3, 4, 5, 6].as_slice());
+    Ok(list)
+}
+
+fn numbers_are(rt: &impl Abort, list: &ItemList<u8>, want: &[u8]) {
+    assert_eq!(rt; list.as_slice(), want);
+}
+
+fn remove_second(rt: &impl Abort, list: &mut ItemList<u8>) {
+    assert_eq!(rt; list.len(), 4);
     assert_eq!(rt; list.remove(1), 4);
-    assert_eq!(rt; list.as_slice(), [3, 5, 6].as_slice());
-    assert_eq!(rt; same.len(), 4);
-    Ok(())
 }
 
 #[test]
-fn a_prohibition_is_copied(rt: HostRuntime) -> Result<(), Fail> {
+fn lists_grow_and_are_copied(rt: HostRuntime) -> Result<(), Fail> {
+    let mut list = three_to_six(rt.alloc())?;
+    let same = list.copy()?;
+    remove_second(&rt, &mut list);
+    numbers_are(&rt, &list, &[3, 5, 6]);
+    numbers_are(&rt, &same, &[3, 4, 5, 6]);
+    Ok(())
+}
+
+fn bar(rt: &(impl Abort + Alloc<A = Global>)) -> Result<Prohibition, Memory> {
     let mut inc = PlaceList::new(rt.alloc());
     inc.push(ElementId(3))?;
-    let item = Prohibition {
-        name: name(&rt, "bar"),
+    Ok(Prohibition {
+        name: name(rt, "bar"),
         subject: Subject::Ua(ElementId(4)),
         rights: Rights(5),
         inc,
         exc: PlaceList::new(rt.alloc()),
         mode: Mode::Any,
-    };
-    let same = item.copy()?;
-    assert_eq!(rt; same.name.bytes(), b"bar".as_slice());
-    assert_eq!(rt; same.subject, Subject::Ua(ElementId(4)));
-    assert_eq!(rt; same.rights, Rights(5));
-    assert_eq!(rt; same.inc.as_slice(), [ElementId(3)].as_slice());
-    assert_eq!(rt; same.exc.len(), 0);
-    assert_eq!(rt; same.mode, Mode::Any);
+    })
+}
+
+fn check_bar(rt: &impl Abort, item: &Prohibition) {
+    is_named(rt, &item.name, "bar");
+    assert_eq!(rt;
+        (item.subject, item.rights, item.mode),
+        (Subject::Ua(ElementId(4)), Rights(5), Mode::Any)
+    );
+    assert_eq!(rt; item.inc.as_slice(), [ElementId(3)].as_slice());
+    assert!(rt; item.exc.len() == 0);
+}
+
+#[test]
+fn a_prohibition_is_copied(rt: HostRuntime) -> Result<(), Fail> {
+    let same = bar(&rt)?.copy()?;
+    check_bar(&rt, &same);
     Ok(())
 }
 
 fn check_association(rt: &impl Abort, command: &Command) {
     match command {
         Command::Associate { ua, rights, at } => {
-            assert_eq!(rt; ua.bytes(), b"staff".as_slice());
+            is_named(rt, ua, "staff");
             assert_eq!(rt; rights.len(), 2);
-            assert_eq!(rt; rights.at(1).bytes(), b"write".as_slice());
-            assert_eq!(rt; at.bytes(), b"docs".as_slice());
+            is_named(rt, rights.at(1), "write");
+            is_named(rt, at, "docs");
         }
         _ => assert!(rt; false, "another command"),
     }
 }
 
-#[test]
-fn an_entry_and_its_request_are_copied(rt: HostRuntime) -> Result<(), Fail> {
+fn association(rt: &(impl Abort + Alloc<A = Global>)) -> Result<Request, Fail> {
     let command = Command::Associate {
-        ua: name(&rt, "staff"),
-        rights: names(&rt, &["read", "write"])?,
-        at: name(&rt, "docs"),
+        ua: name(rt, "staff"),
+        rights: names(rt, &["read", "write"])?,
+        at: name(rt, "docs"),
     };
-    let request = Request {
+    Ok(Request {
         after: Some(7),
         body: Body::Admin {
             process: 2,
             command,
         },
-    };
-    let entry = Entry {
+    })
+}
+
+/// The entry of the same request.
+fn entry_of(request: &Request) -> Result<Entry, Memory> {
+    Ok(Entry {
         seat: 3,
         nth: 4,
         request: request.copy()?,
-    };
-    let same = entry.copy()?;
-    assert_eq!(rt; (same.seat, same.nth), (3, 4));
-    assert_eq!(rt; same.request.after, Some(7));
-    match &same.request.body {
+    })
+}
+
+fn check_entry(rt: &impl Abort, entry: &Entry) {
+    let request = &entry.request;
+    assert_eq!(rt; (entry.seat, entry.nth, request.after), (3, 4, Some(7)));
+    match &request.body {
         Body::Admin { process, command } => {
-            assert_eq!(rt; *process, 2);
-            check_association(&rt, command);
+            assert!(rt; *process == 2);
+            check_association(rt, command);
         }
         _ => assert!(rt; false, "another body"),
     }
+}
+
+#[test]
+fn an_entry_and_its_request_are_copied(rt: HostRuntime) -> Result<(), Fail> {
+    let request = association(&rt)?;
+    let same = entry_of(&request)?.copy()?;
+    check_entry(&rt, &same);
     Ok(())
 }
 
@@ -105,42 +143,51 @@ fn check_survey(rt: &impl Abort, question: &Question) {
     match question {
         Question::Survey { users } => {
             assert_eq!(rt; users.len(), 3);
-            assert_eq!(rt; users.at(2).bytes(), b"ann".as_slice());
+            is_named(rt, users.at(2), "ann");
         }
         _ => assert!(rt; false, "another question"),
     }
 }
 
-#[test]
-fn a_question_is_copied(rt: HostRuntime) -> Result<(), Fail> {
+fn survey(rt: &(impl Abort + Alloc<A = Global>)) -> Result<Body, Fail> {
     let question = Question::Survey {
-        users: names(&rt, &["ann", "root", "ann"])?,
+        users: names(rt, &["ann", "root", "ann"])?,
     };
-    let body = Body::Review {
+    Ok(Body::Review {
         process: 3,
         question,
-    };
-    let same = body.copy()?;
-    match &same {
+    })
+}
+
+fn check_review(rt: &impl Abort, body: &Body) {
+    match body {
         Body::Review { process, question } => {
-            assert_eq!(rt; *process, 3);
-            check_survey(&rt, question);
+            assert!(rt; *process == 3);
+            check_survey(rt, question);
         }
         _ => assert!(rt; false, "another body"),
     }
-    Ok(())
 }
 
 #[test]
+fn a_question_is_copied(rt: HostRuntime) -> Result<(), Fail> {
+    let same = survey(&rt)?.copy()?;
+    check_review(&rt, &same);
+    Ok(())
+}
+
+/// A number, a word's place, and the word there.
+static WORDS: &[(u32, u32, u64)] = &[
+    (0, 0, 1),
+    (63, 0, 1 << 63),
+    (64, 0, 0),
+    (64, 1, 1),
+    (16383, 255, 1 << 63),
+];
+
+#[test]
 fn a_number_stands_in_its_word_alone(rt: HostRuntime) {
-    let words = [
-        (0, 0, 1),
-        (63, 0, 1 << 63),
-        (64, 0, 0),
-        (64, 1, 1),
-        (16383, 255, 1 << 63),
-    ];
-    for (number, k, want) in words {
-        assert_eq!(rt; ElementId(number).bit_in(k), want);
+    for (number, k, want) in WORDS {
+        assert_eq!(rt; ElementId(*number).bit_in(*k), *want);
     }
 }

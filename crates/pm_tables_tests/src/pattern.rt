@@ -27,7 +27,7 @@ impl Reach for InTenth {
 type Row = (&'static str, Option<u32>, Option<u32>);
 
 /// A pattern, and whether it matches that user 31 reads 52.
-const PATTERNS: [(Row, bool); 14] = [
+static PATTERNS: &[(Row, bool)] = &[
     (("read", None, None), true),
     (("read", Some(31), None), true),
     (("read", Some(3), None), true),
@@ -65,7 +65,7 @@ fn operation_user_and_target_match(rt: HostRuntime) {
         operation: named(&rt, "read"),
         target: ElementId(52),
     };
-    for (row, want) in &PATTERNS {
+    for (row, want) in PATTERNS {
         let pattern = pattern_of(&rt, row);
         assert_eq!(rt; matches(&pattern, &event, &mut InTenth), *want);
     }

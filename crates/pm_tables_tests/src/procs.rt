@@ -1,9 +1,11 @@
 //! The table step by step, with answers worked out by hand.
 
-ghost use Rattle.std.specs.Prelude.{◌≡◌, ◌+◌, ◌<◌, OnOk};
+ghost use Rattle.std.specs.Prelude.{◌≡◌, ◌+◌, ◌<◌, IfOk, OnOk};
 
 use pm_model::{ChangeError, ElementId, Refusal, Table};
 use pm_procs::*;
+use std::alloc::Global;
+use std::process::Abort;
 use std::test::Fail;
 
 const ROOT: ElementId = ElementId(2);
@@ -34,49 +36,96 @@ fn start_many(table: &mut Procs, session: u32, count: u32) -> Result<(), ProcsEr
     Ok(())
 }
 
-#[test]
-fn a_session_takes_its_processes_along(rt: HostRuntime) -> Result<(), Fail> {
-    let mut table = Procs::opening(rt.alloc())?;
+/// Two sessions of `ann`: processes 1, 2 and 4 are of the first, 3 is of the second.
+fn four_processes(alloc: Global) -> Result<Procs, ProcsError> {
+    let mut table = Procs::opening(alloc)?;
     open_many(&mut table, ANN, 2)?;
     start_many(&mut table, 1, 2)?;
     start_many(&mut table, 2, 1)?;
     start_many(&mut table, 1, 1)?;
+    Ok(table)
+}
+
+#[test]
+fn processes_are_those_of_their_session(rt: HostRuntime) -> Result<(), Fail> {
+    let table = four_processes(rt.alloc())?;
     let of_one = table.processes_of(1)?;
     assert_eq!(rt; of_one.as_slice(), [1, 2, 4].as_slice());
+    Ok(())
+}
+
+/// Closes the first session.
+fn close_first(rt: &impl Abort, table: &mut Procs) -> Result<(), ProcsError> {
     assert!(rt; table.session_live(1));
-    assert_eq!(rt; table.check_close(1), Ok(()));
+    assert!(rt; table.check_close(1).is_ok());
     table.close_session(1)?;
     assert_eq!(rt; table.check_start(1), Err(ProcsError::Absent));
-    assert_eq!(rt; table.check_end(0), Err(ProcsError::Builtin));
-    for (i, want) in [(0, Some((0, 0))), (1, Some((3, 2))), (2, None)] {
+    Ok(())
+}
+
+/// What stands at the first three places, once the first session is closed.
+const LEFT: [(usize, Option<(u32, u32)>); 3] = [(0, Some((0, 0))), (1, Some((3, 2))), (2, None)];
+
+/// The users of the first five processes then.
+const USERS: [(u32, Option<ElementId>); 5] = [
+    (0, Some(ROOT)),
+    (1, None),
+    (2, None),
+    (3, Some(ANN)),
+    (4, None),
+];
+
+fn check_places(rt: &impl Abort, table: &Procs) {
+    for (i, want) in LEFT {
         assert_eq!(rt; table.process_at(i), want, "at {i}");
     }
-    for (process, user) in [
-        (0, Some(ROOT)),
-        (1, None),
-        (2, None),
-        (3, Some(ANN)),
-        (4, None),
-    ] {
+}
+
+fn check_users(rt: &impl Abort, table: &Procs) {
+    for (process, user) in USERS {
         assert_eq!(rt; table.user_of(process), user, "{process}");
     }
+}
+
+#[test]
+fn a_session_takes_its_processes_along(rt: HostRuntime) -> Result<(), Fail> {
+    let mut table = four_processes(rt.alloc())?;
+    close_first(&rt, &mut table)?;
+    assert_eq!(rt; table.check_end(0), Err(ProcsError::Builtin));
+    check_places(&rt, &table);
+    check_users(&rt, &table);
+    Ok(())
+}
+
+/// A session of `ann` with two processes, in pages that copies share.
+fn two_of_ann(alloc: Global) -> Result<Procs, ProcsError>
+    ensures { IfOk result (λ table. table.procs.next_session < 100000) }
+{
+    let mut table = Procs::opening(alloc)?;
+    open_many(&mut table, ANN, 1)?;
+    start_many(&mut table, 1, 2)?;
+    table.share()?;
+    Ok(table)
+}
+
+/// Ends the first of the two, and opens another session.
+fn go_on(rt: &impl Abort, copy: &mut Procs) -> Result<(), ProcsError>
+    requires { copy.old.procs.next_session < 100000 }
+{
+    copy.end_process(1)?;
+    assert_eq!(rt; copy.process_at(1), Some((2, 1)));
+    assert!(rt; copy.open_session(ANN) == Ok(2));
     Ok(())
 }
 
 #[test]
 fn a_copy_is_another_table(rt: HostRuntime) -> Result<(), Fail> {
-    let mut table = Procs::opening(rt.alloc())?;
-    open_many(&mut table, ANN, 1)?;
-    start_many(&mut table, 1, 2)?;
-    table.share()?;
+    let mut table = two_of_ann(rt.alloc())?;
     let mut copy = table.copy()?;
     table.close_session(1)?;
-    assert!(rt; !table.has_session(ANN));
-    assert!(rt; !table.process_live(2));
+    assert!(rt; !table.has_session(ANN) && !table.process_live(2));
     assert!(rt; copy.has_session(ANN));
-    copy.end_process(1)?;
-    assert_eq!(rt; copy.process_at(1), Some((2, 1)));
-    assert_eq!(rt; copy.open_session(ANN), Ok(2));
+    go_on(&rt, &mut copy)?;
     assert!(rt; !table.session_live(2));
     Ok(())
 }

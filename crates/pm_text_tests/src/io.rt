@@ -30,24 +30,40 @@ fn writes<S: Sink>(rt: &impl Abort, sink: &mut S, expected: &[Result<usize, Fail
     }
 }
 
+static WHOLE: &[Option<&[u8]>] = &[Some(b"ab"), Some(b"c"), Some(b"")];
+
 #[test]
-fn sources_give_their_bytes(rt: HostRuntime) -> Result<(), Fail> {
-    let whole = [Some(b"ab".as_slice()), Some(b"c"), Some(b"")];
+fn a_calm_source_gives_its_bytes(rt: HostRuntime) -> Result<(), Fail> {
     let mut calm = CalmSource::new(rt.alloc(), b"abc")?;
-    reads(&rt, &mut calm, &whole);
-    let mut std = StdSource::new(b"abc".as_slice());
-    reads(&rt, &mut std, &whole);
-    let mut failing = MemSource::new(rt.alloc(), b"abc", &[4, 2])?;
-    let answers = [Some(b"ab".as_slice()), None, Some(b"c"), None, Some(b"")];
-    reads(&rt, &mut failing, &answers);
+    reads(&rt, &mut calm, WHOLE);
     Ok(())
 }
 
 #[test]
-fn sinks_take_up_to_their_room(rt: HostRuntime) -> Result<(), Fail> {
+fn a_source_gives_the_bytes_of_its_reader(rt: HostRuntime) {
+    let mut std = StdSource::new(b"abc".as_slice());
+    reads(&rt, &mut std, WHOLE);
+}
+
+static BROKEN: &[Option<&[u8]>] = &[Some(b"ab"), None, Some(b"c"), None, Some(b"")];
+
+#[test]
+fn a_source_fails_where_it_is_told_to(rt: HostRuntime) -> Result<(), Fail> {
+    let mut failing = MemSource::new(rt.alloc(), b"abc", &[4, 2])?;
+    reads(&rt, &mut failing, BROKEN);
+    Ok(())
+}
+
+#[test]
+fn a_sink_takes_up_to_its_room(rt: HostRuntime) -> Result<(), Fail> {
     let mut calm = CalmSink::new(rt.alloc(), 5)?;
     writes(&rt, &mut calm, &[Ok(3), Ok(2), Ok(0)]);
     assert_eq!(rt; calm.taken(), b"abcab".as_slice());
+    Ok(())
+}
+
+#[test]
+fn a_sink_fails_where_it_is_told_to(rt: HostRuntime) -> Result<(), Fail> {
     let mut failing = MemSink::new(rt.alloc(), 5, &[2, 4])?;
     let answers = [Ok(3), Err(Failed), Ok(2), Err(Failed), Ok(0)];
     writes(&rt, &mut failing, &answers);
@@ -111,6 +127,14 @@ impl Write for Clogged {
     }
 }
 
+// What a write of three bytes answers, and how many flushes and bytes there are then.
+const FLUSHED: [(Result<usize, Failed>, usize, usize); 4] = [
+    (Err(Failed), 0, 0),
+    (Ok(3), 1, 3),
+    (Err(Failed), 2, 6),
+    (Ok(3), 3, 9),
+];
+
 #[test]
 fn a_sink_asks_its_writer_once_a_write(rt: HostRuntime) {
     let mut writer = Clogged {
@@ -118,20 +142,12 @@ fn a_sink_asks_its_writer_once_a_write(rt: HostRuntime) {
         flushes: 0,
         taken: 0,
     };
-    // What a write of three bytes answers, and how many flushes and bytes there are then.
-    let table = [
-        (Err(Failed), 0, 0),
-        (Ok(3), 1, 3),
-        (Err(Failed), 2, 6),
-        (Ok(3), 3, 9),
-    ];
-    for (before, (answer, flushes, taken)) in table.iter().enumerate() {
-        assert_eq!(rt; writer.writes, before);
+    for (before, (answer, flushes, taken)) in FLUSHED.iter().enumerate() {
+        assert!(rt; writer.writes == before);
         writes(&rt, &mut StdSink::new(&mut writer), &[*answer]);
-        assert_eq!(rt; writer.flushes, *flushes);
-        assert_eq!(rt; writer.taken, *taken);
+        assert_eq!(rt; (writer.flushes, writer.taken), (*flushes, *taken));
     }
-    assert_eq!(rt; writer.writes, 4);
+    assert!(rt; writer.writes == 4);
 }
 
 #[test]
@@ -139,6 +155,10 @@ fn a_writer_takes_what_its_sink_is_given(rt: HostRuntime) {
     let mut held = Vec::new(rt.alloc());
     writes(&rt, &mut StdSink::new(&mut held), &[Ok(3), Ok(3)]);
     assert_eq!(rt; held.as_slice(), b"abcabc".as_slice());
+}
+
+#[test]
+fn a_full_writer_takes_nothing(rt: HostRuntime) {
     let mut room = [0u8; 5];
     let mut full = StdSink::new(Cursor::new(room.as_mut_slice()));
     writes(&rt, &mut full, &[Ok(3), Ok(2), Ok(0)]);
@@ -157,24 +177,38 @@ fn entry(nth: u64) -> Entry {
     }
 }
 
+// What it answers to this entry, once so many are kept.
+fn keeps(
+    rt: &impl Abort,
+    keeper: &mut MemKeep,
+    kept: u64,
+    nth: u64,
+    answer: Result<(), KeepError>,
+) {
+    assert_eq!(rt; keeper.keep(kept, &entry(nth)), answer);
+}
+
+fn check_kept(rt: &impl Abort, entries: &[Entry]) {
+    assert!(rt; entries.len() == 2);
+    for (kept, nth) in entries.iter().zip([1, 2]) {
+        assert_eq!(rt; (kept.seat, kept.nth), (7, nth));
+    }
+}
+
 #[test]
 fn a_keeper_fails_where_it_is_told_to(rt: HostRuntime) -> Result<(), Fail> {
     let mut keeper = MemKeep::new(rt.alloc(), &[3, 1])?;
-    let calls = [
-        (0, 1, Err(KeepError::Failed)),
-        (0, 1, Ok(())),
-        (1, 2, Err(KeepError::Failed)),
-        (1, 2, Ok(())),
-    ];
-    for (at, nth, answer) in &calls {
-        assert_eq!(rt; keeper.keep(*at, &entry(*nth)), *answer);
-    }
-    assert_eq!(rt; keeper.entries().len(), 2);
-    for (kept, nth) in keeper.entries().iter().zip([1, 2]) {
-        assert_eq!(rt; (kept.seat, kept.nth), (7, nth));
-    }
-    assert_eq!(rt; NoKeep.keep(5, &entry(9)), Ok(()));
+    keeps(&rt, &mut keeper, 0, 1, Err(KeepError::Failed));
+    keeps(&rt, &mut keeper, 0, 1, Ok(()));
+    keeps(&rt, &mut keeper, 1, 2, Err(KeepError::Failed));
+    keeps(&rt, &mut keeper, 1, 2, Ok(()));
+    check_kept(&rt, keeper.entries());
     Ok(())
+}
+
+#[test]
+fn who_keeps_nothing_never_fails(rt: HostRuntime) {
+    assert!(rt; NoKeep.keep(5, &entry(9)).is_ok());
 }
 
 // What reads of at most four bytes answer, one after another.
@@ -192,27 +226,29 @@ fn links_write(rt: &impl Abort, link: &mut MemLink, expected: &[LinkWrite]) {
     }
 }
 
+const READS: [LinkRead; 8] = [
+    LinkRead::Got(1),
+    LinkRead::Again,
+    LinkRead::Failed,
+    LinkRead::Got(1),
+    LinkRead::Failed,
+    LinkRead::Got(3),
+    LinkRead::Got(1),
+    LinkRead::End,
+];
+
+const WRITES: [LinkWrite; 4] = [
+    LinkWrite::Took(3),
+    LinkWrite::Again,
+    LinkWrite::Took(1),
+    LinkWrite::Failed,
+];
+
 #[test]
 fn a_link_does_what_it_is_told(rt: HostRuntime) -> Result<(), Fail> {
     let mut link = MemLink::new(rt.alloc(), b"abcdef", 4, &[1, 0, 3], &[2, 5, 10], &[3, 5])?;
-    let reads = [
-        LinkRead::Got(1),
-        LinkRead::Again,
-        LinkRead::Failed,
-        LinkRead::Got(1),
-        LinkRead::Failed,
-        LinkRead::Got(3),
-        LinkRead::Got(1),
-        LinkRead::End,
-    ];
-    links_read(&rt, &mut link, &reads);
-    let writes = [
-        LinkWrite::Took(3),
-        LinkWrite::Again,
-        LinkWrite::Took(1),
-        LinkWrite::Failed,
-    ];
-    links_write(&rt, &mut link, &writes);
+    links_read(&rt, &mut link, &READS);
+    links_write(&rt, &mut link, &WRITES);
     assert_eq!(rt; link.taken(), b"abca".as_slice());
     Ok(())
 }

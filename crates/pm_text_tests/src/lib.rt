@@ -5,6 +5,8 @@
 #[cfg(test)]
 mod io;
 #[cfg(test)]
-mod json;
+mod printing;
+#[cfg(test)]
+mod reading;
 #[cfg(test)]
 mod session;

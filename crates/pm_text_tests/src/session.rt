@@ -35,54 +35,76 @@ fn gives_none(session: &mut Session) -> bool {
     session.take().is_none()
 }
 
+// Whether these are the lines that wait, and all of them.
+fn gives_lines(session: &mut Session, lines: &[&[u8]]) -> bool {
+    for line in lines {
+        if !gives_line(session, line) {
+            return false;
+        }
+    }
+    gives_none(session)
+}
+
+// Pushes bytes that are taken whole.
+fn push(rt: &impl Abort, session: &mut Session, bytes: &[u8]) {
+    assert_eq!(rt; session.push(bytes), bytes.len());
+}
+
+fn out_is(rt: &impl Abort, session: &Session, bytes: &[u8]) {
+    assert_eq!(rt; session.out(), bytes);
+}
+
 // Pushes pieces of at most 4,096 bytes, each of which is taken whole where no whole line waits.
 fn push_pieces(rt: &impl Abort, session: &mut Session, bytes: &[u8]) {
     for piece in bytes.chunks(4096) {
-        assert_eq!(rt; session.push(piece), piece.len());
+        push(rt, session, piece);
     }
 }
 
 #[test]
-fn each_call_once(rt: HostRuntime) -> Result<(), Fail> {
+fn lines_are_cut_at_line_feeds(rt: HostRuntime) -> Result<(), Fail> {
     let mut session = Session::new(rt.alloc(), 1024)?;
     assert!(rt; gives_none(&mut session));
-    assert_eq!(rt; session.push(b"a\nb\r\n\nrest"), 10);
-    assert!(rt; gives_line(&mut session, b"a"));
-    assert!(rt; gives_line(&mut session, b"b\r"));
-    assert!(rt; gives_line(&mut session, b""));
-    assert!(rt; gives_none(&mut session), "no line feed is behind the rest");
-    assert_eq!(rt; session.out(), b"".as_slice());
+    push(&rt, &mut session, b"a\nb\r\n\nrest");
+    let all = gives_lines(&mut session, &[b"a", b"b\r", b""]);
+    assert!(rt; all, "no line feed is behind the rest");
+    Ok(())
+}
+
+#[test]
+fn replies_are_lines_of_output(rt: HostRuntime) -> Result<(), Fail> {
+    let mut session = Session::new(rt.alloc(), 1024)?;
+    out_is(&rt, &session, b"");
     let names = OneName {
         name: Name::new(b"files").ok_or("a name")?,
     };
     session.reply(Some(7), 3, &Reply::Refused(Refusal::NameTaken), &names)?;
     session.bad(None, 4, &BadLine::NotJson)?;
-    assert_eq!(rt;
-        session.out(),
-        b"{\"id\":7,\"no\":\"name_taken\",\"v\":3}\n{\"no\":\"not_json\",\"v\":4}\n".as_slice()
+    out_is(
+        &rt,
+        &session,
+        b"{\"id\":7,\"no\":\"name_taken\",\"v\":3}\n{\"no\":\"not_json\",\"v\":4}\n",
     );
     Ok(())
+}
+
+// Sends so many bytes, which leaves others.
+fn sends(rt: &impl Abort, session: &mut Session, n: usize, left: &[u8]) {
+    assert!(rt; n <= session.out().len());
+    session.sent(n);
+    out_is(rt, session, left);
 }
 
 #[test]
 fn output_is_sent_part_by_part(rt: HostRuntime) -> Result<(), Fail> {
     let mut session = Session::new(rt.alloc(), 1024)?;
     session.bad(None, 4, &BadLine::NotJson)?;
-    for (n, left) in [
-        (0, b"{\"no\":\"not_json\",\"v\":4}\n".as_slice()),
-        (6, b"\"not_json\",\"v\":4}\n".as_slice()),
-        (17, b"\n".as_slice()),
-        (1, b"".as_slice()),
-    ] {
-        assert!(rt; n <= session.out().len());
-        session.sent(n);
-        assert_eq!(rt; session.out(), left);
-    }
+    sends(&rt, &mut session, 0, b"{\"no\":\"not_json\",\"v\":4}\n");
+    sends(&rt, &mut session, 6, b"\"not_json\",\"v\":4}\n");
+    sends(&rt, &mut session, 17, b"\n");
+    sends(&rt, &mut session, 1, b"");
     session.bad(None, 5, &BadLine::NotJson)?;
-    assert_eq!(rt;
-        session.out(),
-        b"{\"no\":\"not_json\",\"v\":5}\n".as_slice()
-    );
+    out_is(&rt, &session, b"{\"no\":\"not_json\",\"v\":5}\n");
     Ok(())
 }
 
@@ -102,38 +124,53 @@ fn long_line(alloc: Global, length: usize) -> Result<Vec<u8>, AllocError> {
     vec![in alloc; b'x'; length]
 }
 
+// Pushes a line of this many bytes, and another behind it.
+fn push_long(
+    rt: &(impl Abort + Alloc<A = Global>),
+    session: &mut Session,
+    length: usize,
+    is_line: bool,
+) -> Result<(), Fail> {
+    let line = long_line(rt.alloc(), length)?;
+    push_pieces(rt, session, &line);
+    push(rt, session, b"\nnext\n");
+    let told = if is_line {
+        gives_line(session, &line)
+    } else {
+        gives_too_long(session)
+    };
+    assert!(rt; told, "of {length} bytes");
+    Ok(())
+}
+
 #[test]
 fn a_line_has_at_most_8192_bytes(rt: HostRuntime) -> Result<(), Fail> {
     let mut session = Session::new(rt.alloc(), 1024)?;
     for (length, is_line) in [(8191, true), (8192, true), (8193, false)] {
-        let line = long_line(rt.alloc(), length)?;
-        push_pieces(&rt, &mut session, &line);
-        assert_eq!(rt; session.push(b"\nnext\n"), 6);
-        let told = if is_line {
-            gives_line(&mut session, &line)
-        } else {
-            gives_too_long(&mut session)
-        };
-        assert!(rt; told, "of {length} bytes");
-        assert!(rt; gives_line(&mut session, b"next"));
-        assert!(rt; gives_none(&mut session));
+        push_long(&rt, &mut session, length, is_line)?;
+        assert!(rt; gives_lines(&mut session, &[b"next"]));
+    }
+    Ok(())
+}
+
+// Pushes bytes in which no line feed is.
+fn push_endless(rt: &(impl Abort + Alloc<A = Global>), session: &mut Session) -> Result<(), Fail> {
+    let piece = long_line(rt.alloc(), 4096)?;
+    for _ in 0..10 {
+        push(rt, session, &piece);
+        assert!(rt; gives_none(session));
     }
     Ok(())
 }
 
 #[test]
 fn a_line_without_end_takes_each_piece(rt: HostRuntime) -> Result<(), Fail> {
-    let piece = long_line(rt.alloc(), 4096)?;
     let mut session = Session::new(rt.alloc(), 1024)?;
-    for _ in 0..10 {
-        assert_eq!(rt; session.push(&piece), 4096);
-        assert!(rt; gives_none(&mut session));
-    }
-    assert_eq!(rt; session.push(b"x\nab\nc"), 6);
+    push_endless(&rt, &mut session)?;
+    push(&rt, &mut session, b"x\nab\nc");
     assert!(rt; gives_too_long(&mut session));
-    assert!(rt; gives_line(&mut session, b"ab"));
-    assert!(rt; gives_none(&mut session));
-    assert_eq!(rt; session.push(b"d\n"), 2);
+    assert!(rt; gives_lines(&mut session, &[b"ab"]));
+    push(&rt, &mut session, b"d\n");
     assert!(rt; gives_line(&mut session, b"cd"));
     Ok(())
 }
@@ -153,21 +190,28 @@ fn drain(session: &mut Session, seen: &mut Vec<u8>) -> Result<(), Fail> {
     Ok(())
 }
 
+// The lines of bytes that come in two pieces.
+fn lines_of(
+    rt: &(impl Abort + Alloc<A = Global>),
+    bytes: &[u8],
+    more: &[u8],
+) -> Result<Vec<u8>, Fail> {
+    let mut session = Session::new(rt.alloc(), 1024)?;
+    let mut seen = Vec::new(rt.alloc());
+    push_pieces(rt, &mut session, bytes);
+    drain(&mut session, &mut seen)?;
+    push_pieces(rt, &mut session, more);
+    drain(&mut session, &mut seen)?;
+    Ok(seen)
+}
+
 #[test]
 fn a_cut_anywhere_makes_no_difference(rt: HostRuntime) -> Result<(), Fail> {
     let bytes = b"one\n\r\n\ntwo three\nrest";
+    let want = b"one|\r||two three|".as_slice();
     for cut in 0..=bytes.len() {
-        let mut session = Session::new(rt.alloc(), 1024)?;
-        let mut seen = Vec::new(rt.alloc());
-        push_pieces(&rt, &mut session, &bytes[..cut]);
-        drain(&mut session, &mut seen)?;
-        push_pieces(&rt, &mut session, &bytes[cut..]);
-        drain(&mut session, &mut seen)?;
-        assert_eq!(rt;
-            seen.as_slice(),
-            b"one|\r||two three|".as_slice(),
-            "at {cut}"
-        );
+        let seen = lines_of(&rt, &bytes[..cut], &bytes[cut..])?;
+        assert_eq!(rt; seen.as_slice(), want, "at {cut}");
     }
     Ok(())
 }

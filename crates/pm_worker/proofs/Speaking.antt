@@ -23,7 +23,7 @@ use Rattle.pm_model.specs.declared.replies.Reply.TheVariants as reply
 use Rattle.pm_model.specs.declared.replies.Reply.TheVariants.{KeepFault}
 use Rattle.pm_laws.proofs.Nameable.{answer_nameable}
 use Rattle.pm_laws.proofs.Replayed.{legal_history}
-use Rattle.pm_json.specs.Growth.{item_most, items_in, reply_most}
+use Rattle.pm_print.specs.Growth.{item_most, items_in, reply_most}
 use Rattle.pm_session.specs.Streams.{Streams}
 use Rattle.pm_session.specs.Taken.{rest_of}
 use Rattle.pm_session.proofs.LineLaws.{IsCut-cut}

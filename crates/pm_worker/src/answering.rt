@@ -8,7 +8,7 @@ ghost use Rattle.pm_model.specs.Text.{text};
 ghost use Rattle.pm_model.specs.Nameable.{IsNameable};
 ghost use Rattle.pm_model.specs.Solo.{asked_at};
 ghost use Rattle.pm_model.specs.declared.requests.What.TheVariants as what;
-ghost use Rattle.pm_json.specs.Growth.{reply_most};
+ghost use Rattle.pm_print.specs.Growth.{reply_most};
 ghost use Rattle.pm_session.specs.Taken.{shown, LeavesRest};
 ghost use Rattle.pm_house.specs.Desks.{NeverFails};
 ghost use Rattle.pm_house.specs.Seated.{Rests};
@@ -16,9 +16,10 @@ ghost use Rattle.pm_worker.specs.Answering.{next_asked, Speaks, Replies, Answers
 
 use crate::gates::{Gate, Phase};
 use pm_house::{Home, House, Looked, Replied, Seat};
-use pm_json::{LONGEST_REPLY, read_request};
 use pm_machine::Version;
 use pm_model::{Asked, BadLine, Keep, LineEvent, Memory, Reply, Request, What};
+use pm_print::LONGEST_REPLY;
+use pm_read::read_request;
 use pm_session::Session;
 use std::alloc::Global;
 use std::sync::Wait;

@@ -7,7 +7,7 @@ ghost use Rattle.pm_worker.specs.Turns.{Sends, IsSent, IsClosed, IsFed};
 
 use crate::turns::Turn;
 use pm_io::{Link, LinkRead, LinkWrite};
-use pm_json::LONGEST_REPLY;
+use pm_print::LONGEST_REPLY;
 use pm_session::Session;
 
 /// Writes the output until none is left. Else the turn ends: Idle where the link takes no more now, LinkFault where it

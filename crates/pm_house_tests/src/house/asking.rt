@@ -146,6 +146,22 @@ pub(crate) fn submit<K: Keep + Drop, H: Home, R: Threads + Wait + Abort + Alloc<
     (what(&replied.reply), replied.version)
 }
 
+/// The desk tells this, at this version.
+pub(crate) fn is_told<
+    K: Keep + Drop,
+    H: Home,
+    R: Threads + Wait + Abort + Alloc<A = Global> + Sync,
+>(
+    rt: &R,
+    house: &House<Edition, K, H>,
+    seat: &mut Seat<Edition, H>,
+    request: &Request,
+    told: Told,
+    version: u64,
+) {
+    assert_eq!(rt; submit(rt, house, seat, request), (told, version));
+}
+
 /// What a look tells, and the version that it names; None where the desk is needed.
 pub(crate) fn look<H: Home, R: Threads + Abort + Sync>(
     rt: &R,
@@ -158,6 +174,16 @@ pub(crate) fn look<H: Home, R: Threads + Abort + Sync>(
     }
 }
 
+/// A look tells this.
+pub(crate) fn is_seen<H: Home, R: Threads + Abort + Sync>(
+    rt: &R,
+    seat: &mut Seat<Edition, H>,
+    request: &Request,
+    told: Option<(Told, u64)>,
+) {
+    assert_eq!(rt; look(rt, seat, request), told);
+}
+
 /// A class of the letter of this number can't be kept, and all stays.
 pub(crate) fn fault_at<
     K: Keep + Drop,
@@ -165,7 +191,7 @@ pub(crate) fn fault_at<
     R: Threads + Wait + Abort + Alloc<A = Global> + Sync,
 >(rt: &R, house: &House<Edition, K, H>, seat: &mut Seat<Edition, H>, entries: u64) {
     let class = request(rt, Ask::Class(letter(entries)));
-    assert_eq!(rt; submit(rt, house, seat, &class), (Told::Fault, entries));
+    is_told(rt, house, seat, &class, Told::Fault, entries);
     assert_eq!(rt; (seat.made(), seat.version()), (entries, entries));
 }
 

@@ -4,12 +4,14 @@ ghost use Rattle.pm_runner.specs.Worked.{passed_by, obligation_of, occasion_of};
 use super::*;
 use pm_runner::{ActError, Acts, PositionList, run_responses};
 
-/// A machine on which each action is passed by. It notes the places that it is asked for.
+/// A machine on which each action is passed by. It notes the places that it is asked for, and whether memory was
+/// wanting for one.
 #[derive(Drop)]
 struct Noting {
     first: Name,
     second: Name,
     asked: Vec<Place>,
+    short: bool,
 }
 
 impl Acts for Noting {
@@ -25,9 +27,12 @@ impl Acts for Noting {
 
     ghost judged = { λ s. 0 };
 
-    #[tactic(auto, using(crate::proofs::WorkedTurns::passed_by, crate::proofs::WorkedTurns::none_judged))]
+    ghost short = { λ s. s.short };
+
+    #[tactic(auto, using(crate::proofs::WorkedTurns::passed_by, crate::proofs::WorkedTurns::none_judged, crate::proofs::WorkedTurns::still_short, crate::proofs::WorkedTurns::now_short))]
     fn act(&mut self, place: Place) -> Result<(), ActError> {
         if self.asked.push(place).is_err() {
+            self.short = true;
             return Err(ActError::Memory);
         }
         Ok(())
@@ -108,6 +113,7 @@ fn all_are_done_in_order(rt: HostRuntime) -> Result<(), Fail> {
         first: named(&rt, "first"),
         second: named(&rt, "second"),
         asked: Vec::new(rt.alloc()),
+        short: false,
     };
     let obligations = two(rt.alloc(), noting.first, noting.second)?;
     let places = two_places(rt.alloc())?;

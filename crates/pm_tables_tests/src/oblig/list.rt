@@ -38,23 +38,58 @@ fn list_of(rt: &(impl Abort + Alloc<A = Global>), rows: &[Row]) -> Result<Obliga
     Ok(list)
 }
 
-#[test]
-fn obligations_come_and_go(rt: HostRuntime) -> Result<(), Fail> {
-    let mut list = list_of(&rt, &ROWS)?;
+/// A list and its copy.
+#[derive(Drop)]
+struct Both {
+    list: Obligations,
+    copy: Obligations,
+}
+
+fn copied(mut list: Obligations) -> Result<Both, Memory> {
     list.share()?;
     let copy = list.copy()?;
-    let b = list.withdraw(named(&rt, "b"))?;
-    assert!(rt; b.name == named(&rt, "b"));
-    assert_eq!(rt; list.find(named(&rt, "c")), Some(1));
+    Ok(Both { list, copy })
+}
+
+/// Withdraws the second obligation: the third is then the second.
+fn withdraw_b(rt: &impl Abort, list: &mut Obligations) -> Result<(), ObligError> {
+    let b = list.withdraw(named(rt, "b"))?;
+    assert!(rt; b.name == named(rt, "b"));
+    assert_eq!(rt; (list.find(named(rt, "c")), list.len()), (Some(1), 3));
+    Ok(())
+}
+
+/// Withdraws the second of three, to which 64 stands.
+fn withdraw_c(rt: &impl Abort, list: &mut Obligations) -> Result<(), Fail> {
     assert_eq!(rt; list.len(), 3);
     let c = list.withdraw_at(1)?;
     assert_eq!(rt; c.pattern.target, Some(ElementId(64)));
     assert!(rt; list.names(ElementId(63)));
     assert!(rt; !list.names(ElementId(64)));
     assert!(rt; list.get(2).is_none());
-    assert_eq!(rt; copy.len(), 4);
-    assert_eq!(rt; copy.obligations_from(0).len(), 4);
-    assert!(rt; copy.at(1).name == b.name);
+    Ok(())
+}
+
+#[test]
+fn obligations_come_and_go(rt: HostRuntime) -> Result<(), Fail> {
+    let mut list = list_of(&rt, &ROWS)?;
+    withdraw_b(&rt, &mut list)?;
+    withdraw_c(&rt, &mut list)
+}
+
+/// The list has all four still.
+fn check_four(rt: &impl Abort, list: &Obligations) {
+    assert_eq!(rt; list.len(), 4);
+    assert_eq!(rt; list.obligations_from(0).len(), 4);
+    assert!(rt; list.at(1).name == named(rt, "b"));
+}
+
+#[test]
+fn a_copy_keeps_what_is_withdrawn(rt: HostRuntime) -> Result<(), Fail> {
+    let mut both = copied(list_of(&rt, &ROWS)?)?;
+    withdraw_b(&rt, &mut both.list)?;
+    withdraw_c(&rt, &mut both.list)?;
+    check_four(&rt, &both.copy);
     Ok(())
 }
 

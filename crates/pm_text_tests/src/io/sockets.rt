@@ -55,19 +55,25 @@ fn fill(link: &mut MioLink) -> LinkWrite {
     LinkWrite::Took(0)
 }
 
+// What is sent at one end comes at the other, into a piece of four bytes.
+fn comes(rt: &impl Abort, from: &mut MioLink, to: &mut MioLink, sent: &[u8], piece: [u8; 4])
+    requires { 0 < length sent.now }
+{
+    let count = sent.len();
+    assert!(rt; from.write(sent) == LinkWrite::Took(count));
+    let mut came = [0u8; 4];
+    assert!(rt; read(to, &mut came) == LinkRead::Got(count));
+    assert_eq!(rt; came, piece);
+}
+
 #[test]
 fn a_socket_is_a_link(rt: HostRuntime) -> Result<(), Fail> {
     let (mut near, mut far) = ends(&rt)?;
-    let mut piece = [0u8; 4];
-    assert_eq!(rt; far.read(&mut piece), LinkRead::Again);
-    assert_eq!(rt; near.write(b"abc"), LinkWrite::Took(3));
-    assert_eq!(rt; read(&mut far, &mut piece), LinkRead::Got(3));
-    assert_eq!(rt; piece, *b"abc\0");
-    assert_eq!(rt; far.write(b"defg"), LinkWrite::Took(4));
-    assert_eq!(rt; read(&mut near, &mut piece), LinkRead::Got(4));
-    assert_eq!(rt; piece, *b"defg");
+    assert_eq!(rt; far.read(&mut [0u8; 4]), LinkRead::Again);
+    comes(&rt, &mut near, &mut far, b"abc", *b"abc\0");
+    comes(&rt, &mut far, &mut near, b"defg", *b"defg");
     drop(far);
-    assert_eq!(rt; read(&mut near, &mut piece), LinkRead::End);
+    assert_eq!(rt; read(&mut near, &mut [0u8; 4]), LinkRead::End);
     Ok(())
 }
 

@@ -1,8 +1,8 @@
-use Rattle.std.proofs.Common.{◌≡◌, ◌∙◌, Some, length, slice_get, refl}
+use Rattle.std.proofs.Common.{◌∙◌, length, refl}
 use Rattle.std.proofs.lemmas.Option.{slice_get_read}
 use Rattle.pm_decide.proofs.Walks.{any-no, any-yes}
 use Rattle.pm_decide.specs.Live.{IsLive}
-use Rattle.pm_affect.specs.Lists.{Listed, subjects}
+use Rattle.pm_affect.specs.Lists.{subjects}
 use Rattle.pm_affect.specs.Rows.{near_on}
 use Rattle.pm_affect.proofs.Edits.{subject-at}
 use Rattle.pm_affect.proofs.Walk.{all-at}

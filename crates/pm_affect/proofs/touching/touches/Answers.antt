@@ -2,7 +2,7 @@ use Rattle.std.proofs.Common.{◌≡◌, ◌∙◌, false, sym}
 use Rattle.std.specs.List.{list_any}
 use Rattle.pm_affect.specs.Lists.{subjects}
 use Rattle.pm_affect.specs.Rows.{has_near, is_near}
-use Rattle.pm_affect.proofs.Untouched.{untouched-empty, untouched-far, untouched-nothing}
+use Rattle.pm_affect.proofs.Untouched.{untouched-far}
 use Rattle.pm_affect.proofs.touching.touches.Goals as goal
 
 pub returns-clause-none : goal.returns-clause-none

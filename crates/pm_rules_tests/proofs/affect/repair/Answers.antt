@@ -4,17 +4,17 @@ use Rattle.pm_affect.proofs.Given.{anew_among, anew_given}
 use Rattle.pm_rules_tests.proofs.affect.repair.Goals as goal
 
 pub update-requires-clause-lists : goal.update-requires-clause-lists
-update-requires-clause-lists c =
+update-requires-clause-lists g c =
     rw (c.in_ok-elements.ensures, c.in_ok-users.ensures)
     (agreed_right (is_shown c.args.words.now) c.args.region.now (staff_rights c.args.words.now c.args.was) (staff_rights c.args.words.now c.args.now) elements users
-    c.args.lists.now c.requires.given c.requires.among c.requires.outside)
+    c.args.lists c.requires.given c.requires.among c.requires.outside)
 
 pub returns-clause-given : goal.returns-clause-given
-returns-clause-given c =
-    anew_given (staff_rights c.args.words.now c.args.now) elements users c.args.lists.now c.update.new.lists
-    (rw c.in_ok-elements.ensures at c.in_ok-update.ensures.caps) (rw c.in_ok-users.ensures at c.in_ok-update.ensures.entries)
+returns-clause-given g c =
+    anew_given (staff_rights c.args.words.now c.args.now) elements users c.args.lists c.in_ok-new.new
+    (rw c.in_ok-elements.ensures at c.in_ok-new.ensures.caps) (rw c.in_ok-users.ensures at c.in_ok-new.ensures.entries)
 
 pub returns-clause-among : goal.returns-clause-among
-returns-clause-among c =
-    anew_among (staff_rights c.args.words.now c.args.now) elements users c.args.lists.now c.update.new.lists
-    (rw c.in_ok-elements.ensures at c.in_ok-update.ensures.caps) (rw c.in_ok-users.ensures at c.in_ok-update.ensures.entries) c.requires.among
+returns-clause-among g c =
+    anew_among (staff_rights c.args.words.now c.args.now) elements users c.args.lists c.in_ok-new.new
+    (rw c.in_ok-elements.ensures at c.in_ok-new.ensures.caps) (rw c.in_ok-users.ensures at c.in_ok-new.ensures.entries) c.requires.among

@@ -1,5 +1,4 @@
-use Rattle.std.proofs.Common.{◌≡◌, Err, arith}
-use Rattle.pm_run.specs.declared.lines.Stop.TheVariants as stop
+use Rattle.std.proofs.Common.{arith}
 use Rattle.pm_run.proofs.Answering.{answered-unsent}
 use Rattle.pm_run.proofs.lines.answer_lines.Goals.{in-Err-WriteFault, in_default, in_default-2}
 use Rattle.pm_run.proofs.lines.answer_lines.Goals as goal

@@ -10,6 +10,7 @@ invariant-loop-i g l =
     record {
       same : g.A.Acts.occasion l.acts ≡ occasion;
       history : g.A.Acts.history l.acts ≡ g.A.Acts.history l.fn.acts;
+      short : g.A.Acts.short l.acts ≡ g.A.Acts.short l.fn.acts;
       made : obliged occasion l.obligation (l.index + 1) (g.A.Acts.graph l.fn.acts) (take l.i l.obligation.response)
           ≡ Ok (g.A.Acts.graph l.acts);
       judged : capped (g.A.Acts.judged l.acts)

@@ -1,9 +1,10 @@
 -- A response behind those that have made the graph.
 use Rattle.std.proofs.Common.{◌∙◌}
+use Rattle.std.proofs.Math.Bool.{or-false}
 use Rattle.std.proofs.lemmas.Result.{err_from_is_err_and}
 use Rattle.pm_runner.proofs.Counts.{response-counted}
 use Rattle.pm_runner.proofs.Places.{stands_at}
-use Rattle.pm_runner.proofs.Steps.{response-done, response-stops, stop-of}
+use Rattle.pm_runner.proofs.Steps.{response-done, response-stops, run-left, stop-of}
 use Rattle.pm_runner.proofs.running.run_responses.Goals as goal
 
 pub run_obligation-requires-clause-due : goal.run_obligation-requires-clause-due
@@ -23,10 +24,25 @@ returns-in_err-run_obligation-clause-stopped g c =
     (stands_at _ _ _ c.loop-i.i c.at-place.result.now c.at.result.now c.requires.places c.at-place.ensures c.at.ensures) c.loop-i.invariant.made)
     c.in_err-run_obligation.ensures.stopped)
 
+pub returns-in_err-run_obligation-clause-short : goal.returns-in_err-run_obligation-clause-short
+returns-in_err-run_obligation-clause-short g c =
+    let p = err_from_is_err_and c.from_residual.result c.from_residual.ensures.1 in
+    rw (p.1, p.2, ← c.loop-i.invariant.short) c.in_err-run_obligation.ensures.short
+
+pub returns-in_err-run_obligation-clause-err : goal.returns-in_err-run_obligation-clause-err
+returns-in_err-run_obligation-clause-err g c =
+    let p = err_from_is_err_and c.from_residual.result c.from_residual.ensures.1 in
+    rw p.1
+    (run-left (g.A.Acts.occasion c.args.acts.now) (g.A.Acts.occasion c.loop-i.acts) c.loop-i.i (g.A.Acts.graph c.args.acts.now)
+    (g.A.Acts.graph c.loop-i.acts) (g.A.Acts.graph c.run_obligation.new.acts) c.at.result.now c.loop-i.invariant.same
+    (stands_at _ _ _ c.loop-i.i c.at-place.result.now c.at.result.now c.requires.places c.at-place.ensures c.at.ensures)
+    c.loop-i.invariant.made c.in_err-run_obligation.ensures.err)
+
 pub loop-i-preserved : goal.loop-i-preserved
 loop-i-preserved g c = record {
   same = c.in_ok-run_obligation.ensures.same ∙ c.loop-i.invariant.same;
   history = c.in_ok-run_obligation.ensures.history ∙ c.loop-i.invariant.history;
+  short = c.in_ok-run_obligation.ensures.short ∙ or-false _ ∙ c.loop-i.invariant.short;
   made = response-done (g.A.Acts.occasion c.args.acts.now) (g.A.Acts.occasion c.loop-i.acts) c.loop-i.i (g.A.Acts.graph c.args.acts.now)
       (g.A.Acts.graph c.loop-i.acts) (g.A.Acts.graph c.run_obligation.new.acts) c.at.result.now c.loop-i.invariant.same
       (stands_at _ _ _ c.loop-i.i c.at-place.result.now c.at.result.now c.requires.places c.at-place.ensures c.at.ensures)

@@ -1,4 +1,3 @@
-use Rattle.std.proofs.Common.{refl}
 use Rattle.pm_state.specs.Containing.{relation_in}
 use Rattle.pm_affect.proofs.Named.{region_live}
 use Rattle.pm_state.proofs.Charged.{due-untouched-judged}

@@ -1,10 +1,15 @@
 -- What lies outside the region is right already.
 use Rattle.std.proofs.Common.{refl, arith}
+use Rattle.std.proofs.lemmas.Result.{IfOk-weaker}
 use Rattle.pm_affect.specs.Counting.{judged_for}
+use Rattle.pm_affect.specs.Lists.{Lists}
 use Rattle.pm_state.specs.Containing.{relation_in}
+use Rattle.pm_state.specs.Listing.{AreListed}
+use Rattle.pm_state.specs.Repairs.{IsCharged}
+use Rattle.pm_state.specs.declared.repairs.Repair.TheVariants.{Within}
 use Rattle.pm_state.proofs.Charged.{charged-none, due-judged}
 use Rattle.pm_state.proofs.Regions.{elements-asked, users-asked, few-pairs}
-use Rattle.pm_state.proofs.Repaired.{due-same, are-lists, are-live, anew-listed}
+use Rattle.pm_state.proofs.Repaired.{due-same, are-lists, are-live, anew-listed, if-both}
 use Rattle.pm_state.proofs.repairs.judge_again.Goals as goal
 
 pub update-requires-clause-region : goal.update-requires-clause-region
@@ -36,7 +41,7 @@ update-requires-clause-room c =
 
 pub update-requires-clause-lists : goal.update-requires-clause-lists
 update-requires-clause-lists c =
-    let L = c.args.lists.now in
+    let L = c.args.lists in
     let H = c.args.graph.now in
     let due = c.requires in
     let same = due-same L H c.args.region.now due in
@@ -46,20 +51,23 @@ update-requires-clause-lists c =
 
 pub returns-then-not-are_touched-clause-charged : goal.returns-then-not-are_touched-clause-charged
 returns-then-not-are_touched-clause-charged c = λ due.
-    let L = c.args.lists.now in
+    let L = c.args.lists in
     charged-none L L (judged_for due.before due.change) c.kept.ensures.few refl (c.are_touched.ensures.judged c.if-not-are_touched.true due)
 
 pub returns-clause-listed : goal.returns-clause-listed
 returns-clause-listed c =
-    let L = c.args.lists.now in
+    let L = c.args.lists in
     let H = c.args.graph.now in
     let due = c.requires in
-    anew-listed L c.update.new.lists H
-    (rw (c.new-judge.ensures.graph, c.in_ok-elements.ensures) at c.in_ok-update.ensures.caps)
-    (rw (c.new-judge.ensures.graph, c.in_ok-users.ensures) at c.in_ok-update.ensures.entries)
-    due.before (due-same L H c.args.region.now due) due.listed
+    if-both c.update.result _ _ (λ (M : Lists). AreListed M H)
+    (λ M caps entries. anew-listed L M H caps entries due.before (due-same L H c.args.region.now due) due.listed)
+    (rw (c.new-judge.ensures.graph, c.in_ok-elements.ensures) at c.update.ensures.caps)
+    (rw (c.new-judge.ensures.graph, c.in_ok-users.ensures) at c.update.ensures.entries)
 
 pub returns-clause-charged : goal.returns-clause-charged
-returns-clause-charged c = λ due.
-    rw (c.reach-reach.ensures.assigned, c.in_ok-elements.ensures, c.in_ok-users.ensures, ← due-judged c.args.lists.now c.args.graph.now c.args.region.now due)
-    at c.in_ok-update.ensures.charged
+returns-clause-charged c =
+    let L = c.args.lists in
+    let H = c.args.graph.now in
+    IfOk-weaker c.update.result _ (λ (M : Lists). IsCharged L M H (Within c.args.region.now)) (λ M charged due.
+    rw (c.reach-reach.ensures.assigned, c.in_ok-elements.ensures, c.in_ok-users.ensures, ← due-judged L H c.args.region.now due) at charged)
+    c.update.ensures.charged

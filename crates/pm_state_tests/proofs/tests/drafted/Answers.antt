@@ -1,4 +1,4 @@
-use Rattle.std.proofs.Common.{◌≡◌, ℕ, ◌+◌, ◌∷◌, ◌++◌, [], List, None, Ok, refl, ap, sym, subst, arith}
+use Rattle.std.proofs.Common.{◌≡◌, ℕ, ◌+◌, ◌∷◌, ◌++◌, [], List, None, true, Ok, refl, ap, sym, subst, arith}
 use Rattle.std.specs.Result.{IfOk}
 use Rattle.pm_model.specs.Effect.{effect}
 use Rattle.pm_model.specs.History.{Machine, IsAnswered, IsReplayed, state_of}
@@ -13,7 +13,7 @@ use Rattle.pm_state_tests.proofs.tests.drafted.Goals as goal
 
 -- the state as a draft
 abbrev drafted_from : Machine → Drafted
-drafted_from M = record { graph = M.graph; history = M.history; asked = capped (judged_in M.history) }
+drafted_from M = record { graph = M.graph; history = M.history; asked = capped (judged_in M.history); whole = true }
 
 -- a process that starts where no review is kept is what the machine answers to its entry
 started-plainly : (M D : Machine) → IsReplayed M → M.graph.kept ≡ [] → D.history ≡ M.history → effect M.graph (Change.StartProcess 0) ≡ Ok D.graph →

@@ -8,7 +8,7 @@ changes_of_rights-requires-clause-old_rises c =
 
 pub changes_of_rights-requires-clause-new_rises : goal.changes_of_rights-requires-clause-new_rises
 changes_of_rights-requires-clause-new_rises c =
-    rw (c.in_ok-new.ensures) (c.lists_rise.ensures.rising c.args.draft.now.graph c.args.of.now (rw (c.graph-2.ensures) at c.formed-2.ensures))
+    rw (c.in_ok-new.ensures.list) (c.lists_rise.ensures.rising c.args.draft.now.graph c.args.of.now (rw (c.graph-2.ensures) at c.formed-2.ensures))
 
 pub changes_of_rights-requires-clause-old_named : goal.changes_of_rights-requires-clause-old_named
 changes_of_rights-requires-clause-old_named c =
@@ -17,7 +17,7 @@ changes_of_rights-requires-clause-old_named c =
 
 pub changes_of_rights-requires-clause-new_named : goal.changes_of_rights-requires-clause-new_named
 changes_of_rights-requires-clause-new_named c =
-    rw (c.in_ok-new.ensures, c.graph-is.ensures)
+    rw (c.in_ok-new.ensures.list, c.graph-is.ensures)
     (c.lists_rise.ensures.live c.args.draft.now.graph c.args.of.now (rw (c.graph-2.ensures) at c.formed-2.ensures))
 
 pub changes_of_rights-requires-clause-names : goal.changes_of_rights-requires-clause-names
@@ -32,7 +32,7 @@ changes-requires-clause-old_rises c =
 
 pub changes-requires-clause-new_rises : goal.changes-requires-clause-new_rises
 changes-requires-clause-new_rises c =
-    rw (c.in_ok-new.ensures) (c.lists_rise.ensures.rising c.args.draft.now.graph c.args.of.now (rw (c.graph-2.ensures) at c.formed-2.ensures))
+    rw (c.in_ok-new.ensures.list) (c.lists_rise.ensures.rising c.args.draft.now.graph c.args.of.now (rw (c.graph-2.ensures) at c.formed-2.ensures))
 
 pub changes-requires-clause-old_named : goal.changes-requires-clause-old_named
 changes-requires-clause-old_named c =
@@ -41,5 +41,5 @@ changes-requires-clause-old_named c =
 
 pub changes-requires-clause-new_named : goal.changes-requires-clause-new_named
 changes-requires-clause-new_named c =
-    rw (c.in_ok-new.ensures, c.graph-is.ensures)
+    rw (c.in_ok-new.ensures.list, c.graph-is.ensures)
     (c.lists_rise.ensures.live c.args.draft.now.graph c.args.of.now (rw (c.graph-2.ensures) at c.formed-2.ensures))

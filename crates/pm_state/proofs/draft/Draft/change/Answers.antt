@@ -15,7 +15,7 @@ pub repaired-requires : goal.repaired-requires
 repaired-requires c =
     let d = c.self.inside in
     let named : IsNamed d.graph c.args.change.now = subst (λ (D : Drafted). IsNamed D.graph c.args.change.now) (sym c.self.view_is) c.requires in
-    if-due d.lists c.take.result d.graph c.change.new.self c.args.change.now c.in-Ok.asked c.formed.ensures named c.in-Ok-change.ensures.ok c.in-Ok.ensures
+    if-due d.lists c.take.result d.graph c.change.new.self c.args.change.now c.in-Ok.asked c.formed.ensures named c.in-Ok-change.ensures.ok c.in-Ok.ensures.asked
     c.take.ensures.value c.self.invariant.listed
 
 pub returns-clause-asked : goal.returns-clause-asked
@@ -23,7 +23,7 @@ returns-clause-asked c =
     let d = c.self.inside in
     let named : IsNamed d.graph c.args.change.now = subst (λ (D : Drafted). IsNamed D.graph c.args.change.now) (sym c.self.view_is) c.requires in
     let charged = if-charged d.lists c.take.result c.repaired.result d.graph c.change.new.self c.args.change.now c.in-Ok.asked c.formed.ensures named
-    c.in-Ok-change.ensures.ok c.in-Ok.ensures c.take.ensures.value c.self.invariant.listed c.repaired.ensures.charged in
+    c.in-Ok-change.ensures.ok c.in-Ok.ensures.asked c.take.ensures.value c.self.invariant.listed c.repaired.ensures.charged in
     elim c.match-self.branch as (λ w. OnOk c.match-self.result (asked_of c.repaired.result ≡ capped (c.args.self.now.asked + judged_for c.args.self.now.graph c.args.change.now))) [
       | in-Some w ↦ rw (w.result-is, ← c.self.view_is) (charged _ w.in-Some.is)
       | in-None w ↦ rw (w.result-is) tt

@@ -11,6 +11,6 @@ invariant_of-self-2 c =
     let kept = c.self.invariant in
     let named : IsNamed G c.args.change.now = subst (λ g. IsNamed g c.args.change.now) (sym c.self.view_is) c.requires in
     record {
-      formed = formed-effect G _ c.args.change.now kept.formed named c.in-Ok.ensures.ok;
-      classes = classes-kept G _ c.args.change.now _ _ kept.formed c.in-Ok.ensures.ok kept.classes c.in-Ok.ensures.classes;
+      formed = formed-effect G _ c.args.change.now kept.formed named c.in-Ok.ensures.changes.ok;
+      classes = classes-kept G _ c.args.change.now _ _ kept.formed c.in-Ok.ensures.changes.ok kept.classes c.in-Ok.ensures.changes.classes;
     }

@@ -23,8 +23,8 @@ at-action-requires c =
     c.at-at.ensures c.at-obligation.ensures c.self.invariant
     (subst (λ (u : Underway). IsTurn u.occasion u.draft.graph c.args.place) (sym c.self.view_is) c.requires))
 
-pub act_by-requires : goal.act_by-requires
-act_by-requires c =
+pub act_by-done-requires : goal.act_by-done-requires
+act_by-done-requires c =
     let s = c.self.inside in
     author-is-user s.names s.version s.obligations.now.items s.places.now s.draft.graph c.args.place c.at-at.result.now c.at-obligation.result.now
     c.at-at.ensures c.at-obligation.ensures c.self.invariant (subst IsWellFormed c.graph.ensures c.formed.ensures)
@@ -36,8 +36,8 @@ invariant_of-self c =
     let asked = rw c.actions-actions.ensures.actions at c.at-action.ensures in
     let done = acted-is s.names s.version obligations s.places.now s.draft.graph c.args.place c.at-at.result.now c.at-obligation.result.now
     c.at-at.ensures c.at-obligation.ensures c.at-action.result.now c.self.invariant asked in
-    responders-stay-either s.names s.version obligations s.places.now s.draft.graph c.args.place c.act_by.result s.draft c.act_by.new.draft refl
-    (rw done c.act_by.ensures.ok) (rw done c.act_by.ensures.err) c.self.invariant
+    responders-stay-either s.names s.version obligations s.places.now s.draft.graph c.args.place c.act_by-done.result c.act_by-done.new.draft.graph
+    (rw done c.act_by-done.ensures.ok) (rw done c.act_by-done.ensures.err) c.self.invariant
     (subst (λ (u : Underway). IsTurn u.occasion u.draft.graph c.args.place) (sym c.self.view_is) c.requires)
 
 pub returns-clause-ok : goal.returns-clause-ok
@@ -46,7 +46,7 @@ returns-clause-ok c =
     let asked = rw c.actions-actions.ensures.actions at c.at-action.ensures in
     let done = acted-is s.names s.version s.obligations.now.items s.places.now s.draft.graph c.args.place c.at-at.result.now c.at-obligation.result.now
     c.at-at.ensures c.at-obligation.ensures c.at-action.result.now c.self.invariant asked in
-    rw (← c.self.view_is, done) c.act_by.ensures.ok
+    rw (← c.self.view_is, done) c.act_by-done.ensures.ok
 
 pub returns-clause-refused : goal.returns-clause-refused
 returns-clause-refused c =
@@ -54,7 +54,7 @@ returns-clause-refused c =
     let asked = rw c.actions-actions.ensures.actions at c.at-action.ensures in
     let done = acted-is s.names s.version s.obligations.now.items s.places.now s.draft.graph c.args.place c.at-at.result.now c.at-obligation.result.now
     c.at-at.ensures c.at-obligation.ensures c.at-action.result.now c.self.invariant asked in
-    rw (← c.self.view_is, done) c.act_by.ensures.refused
+    rw (← c.self.view_is, done) c.act_by-done.ensures.refused
 
 pub returns-clause-judged : goal.returns-clause-judged
 returns-clause-judged c =
@@ -62,4 +62,12 @@ returns-clause-judged c =
     let asked = rw c.actions-actions.ensures.actions at c.at-action.ensures in
     let counted = acted-counted s.names s.version s.obligations.now.items s.places.now s.draft.graph c.args.place c.at-at.result.now c.at-obligation.result.now
     c.at-at.ensures c.at-obligation.ensures c.at-action.result.now c.self.invariant asked in
-    rw (← c.self.view_is, counted) c.act_by.ensures.judged
+    rw (← c.self.view_is, counted) c.act_by-done.ensures.judged
+
+pub returns-clause-err : goal.returns-clause-err
+returns-clause-err c =
+    let s = c.self.inside in
+    let asked = rw c.actions-actions.ensures.actions at c.at-action.ensures in
+    let done = acted-is s.names s.version s.obligations.now.items s.places.now s.draft.graph c.args.place c.at-at.result.now c.at-obligation.result.now
+    c.at-at.ensures c.at-obligation.ensures c.at-action.result.now c.self.invariant asked in
+    rw (← c.self.view_is, done) c.act_by-done.ensures.err

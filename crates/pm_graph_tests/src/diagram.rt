@@ -1,0 +1,263 @@
+//! A small policy, change by change, with answers worked out by hand.
+
+ghost use Rattle.pm_model.specs.Formed.{IsLive};
+
+use pm_diagram::Diagram;
+use pm_elements::ElementsError;
+use pm_model::{ElementId, Kind, Name, Reach};
+use std::alloc::Global;
+use std::process::Abort;
+use std::test::Fail;
+
+#[derive(Clone, Copy)]
+enum Call {
+    Class,
+    User,
+    Ua,
+    Object,
+    Oa,
+    Assign,
+    Deassign,
+    Remove,
+}
+
+fn named(rt: &impl Abort, text: &str) -> Name {
+    Name::new(text.as_bytes()).expect(rt, "a name")
+}
+
+fn live_named(rt: &impl Abort, diagram: &Diagram, text: &str) -> ElementId
+    ensures { IsLive diagram.now.elements result }
+{
+    let table = diagram.elements();
+    let id = table.find(named(rt, text)).expect(rt, "a live element");
+    assert!(rt; table.live(id));
+    id
+}
+
+fn create(
+    rt: &impl Abort,
+    diagram: &mut Diagram,
+    kind: Kind,
+    text: &str,
+    into: &str,
+) -> Result<(), ElementsError> {
+    let container = live_named(rt, diagram, into);
+    diagram.create(kind, named(rt, text), Some(container))?;
+    Ok(())
+}
+
+fn create_class(rt: &impl Abort, diagram: &mut Diagram, text: &str) -> Result<(), ElementsError> {
+    diagram.create(Kind::Pc, named(rt, text), None)?;
+    Ok(())
+}
+
+fn assign(
+    rt: &impl Abort,
+    diagram: &mut Diagram,
+    from: &str,
+    to: &str,
+) -> Result<(), ElementsError> {
+    let x = live_named(rt, diagram, from);
+    let y = live_named(rt, diagram, to);
+    diagram.assign(x, y)
+}
+
+fn deassign(
+    rt: &impl Abort,
+    diagram: &mut Diagram,
+    from: &str,
+    to: &str,
+) -> Result<(), ElementsError> {
+    let x = live_named(rt, diagram, from);
+    let y = live_named(rt, diagram, to);
+    diagram.deassign(x, y)
+}
+
+fn remove(rt: &impl Abort, diagram: &mut Diagram, text: &str) -> Result<(), ElementsError> {
+    let id = live_named(rt, diagram, text);
+    diagram.remove(id)
+}
+
+fn apply(
+    rt: &impl Abort,
+    diagram: &mut Diagram,
+    call: Call,
+    first: &str,
+    second: &str,
+) -> Result<(), ElementsError> {
+    match call {
+        Call::Class => create_class(rt, diagram, first),
+        Call::User => create(rt, diagram, Kind::User, first, second),
+        Call::Ua => create(rt, diagram, Kind::Ua, first, second),
+        Call::Object => create(rt, diagram, Kind::Object, first, second),
+        Call::Oa => create(rt, diagram, Kind::Oa, first, second),
+        Call::Assign => assign(rt, diagram, first, second),
+        Call::Deassign => deassign(rt, diagram, first, second),
+        Call::Remove => remove(rt, diagram, first),
+    }
+}
+
+fn word(answer: Result<(), ElementsError>) -> &'static str {
+    match answer {
+        Ok(()) => "ok",
+        Err(ElementsError::BadKinds) => "bad kinds",
+        Err(ElementsError::NameTaken) => "name taken",
+        Err(ElementsError::Already) => "already",
+        Err(ElementsError::Absent) => "absent",
+        Err(ElementsError::Cycle { .. }) => "cycle",
+        Err(ElementsError::Occupied) => "occupied",
+        Err(ElementsError::LastContainer) => "last container",
+        Err(ElementsError::Full(_)) => "full",
+        Err(ElementsError::Memory) => "memory",
+    }
+}
+
+fn is_in(rt: &impl Abort, diagram: &Diagram, first: &str, second: &str) -> bool {
+    let x = live_named(rt, diagram, first);
+    let y = live_named(rt, diagram, second);
+    let mut reach = diagram.reach();
+    reach.contains(x, y)
+}
+
+type Row = (Call, &'static str, &'static str);
+
+/// Makes these changes, each of which is accepted.
+fn made(rt: &impl Abort, diagram: &mut Diagram, rows: &[Row]) -> Result<(), ElementsError> {
+    for (call, first, second) in rows {
+        apply(rt, diagram, *call, first, second)?;
+    }
+    Ok(())
+}
+
+// The class `files` 3; `staff` 4 and `docs` 5 in it; the users `ann` 6 and `bob` 7; the object `memo` 8.
+static POLICY: &[Row] = &[
+    (Call::Class, "files", ""),
+    (Call::Ua, "staff", "files"),
+    (Call::Oa, "docs", "files"),
+    (Call::User, "ann", "staff"),
+    (Call::User, "bob", "staff"),
+    (Call::Object, "memo", "docs"),
+];
+
+fn policy(rt: &impl Abort, alloc: Global) -> Result<Diagram, ElementsError> {
+    let mut diagram = Diagram::opening(alloc)?;
+    made(rt, &mut diagram, POLICY)?;
+    Ok(diagram)
+}
+
+// What a change is answered, and how many rows were written then.
+fn tried(
+    rt: &impl Abort,
+    diagram: &mut Diagram,
+    call: Call,
+    first: &str,
+    second: &str,
+) -> (&'static str, u64) {
+    let told = word(apply(rt, diagram, call, first, second));
+    (told, diagram.rows().written())
+}
+
+static CHANGES: &[(Row, &str, u64)] = &[
+    ((Call::User, "eve", "docs"), "bad kinds", 11),
+    ((Call::Ua, "ann", "files"), "name taken", 11),
+    ((Call::Ua, "team", "files"), "ok", 13),
+    ((Call::Assign, "staff", "team"), "ok", 16),
+    ((Call::Assign, "staff", "team"), "already", 16),
+    ((Call::Assign, "team", "staff"), "cycle", 16),
+    ((Call::Deassign, "staff", "files"), "ok", 19),
+    ((Call::Deassign, "staff", "files"), "absent", 19),
+    ((Call::Deassign, "staff", "team"), "last container", 19),
+    ((Call::Remove, "staff", ""), "occupied", 19),
+    ((Call::Remove, "memo", ""), "ok", 19),
+];
+
+// A new element counts one row, and another one where it is assigned; an assignment made or taken away
+// counts those of all that is contained in the element assigned.
+#[test]
+fn changes_and_rows_written(rt: HostRuntime) -> Result<(), Fail> {
+    let mut diagram = policy(&rt, rt.alloc())?;
+    for ((call, first, second), want, written) in CHANGES {
+        let told = tried(&rt, &mut diagram, *call, first, second);
+        assert_eq!(rt; told, (*want, *written), "{first} {second}");
+    }
+    assert!(rt; is_in(&rt, &diagram, "ann", "files"));
+    Ok(())
+}
+
+// Whether x is contained in y after a change.
+fn is_in_after(
+    rt: &impl Abort,
+    diagram: &mut Diagram,
+    row: &Row,
+    x: &str,
+    y: &str,
+) -> Result<bool, ElementsError> {
+    let (call, first, second) = row;
+    apply(rt, diagram, *call, first, second)?;
+    Ok(is_in(rt, diagram, x, y))
+}
+
+/// A change, and whether the first is contained in the second then.
+static CONTAINED: &[(Row, &str, &str, bool)] = &[
+    ((Call::Ua, "team", "staff"), "team", "files", true),
+    ((Call::Assign, "ann", "team"), "ann", "team", true),
+    ((Call::Assign, "bob", "team"), "team", "bob", false),
+    ((Call::Deassign, "ann", "staff"), "ann", "staff", true),
+    ((Call::Deassign, "bob", "team"), "bob", "team", false),
+    ((Call::Oa, "drafts", "docs"), "memo", "drafts", false),
+    ((Call::Remove, "drafts", ""), "memo", "files", true),
+    ((Call::Oa, "notes", "files"), "notes", "docs", false),
+];
+
+#[test]
+fn containment_after_each_change(rt: HostRuntime) -> Result<(), Fail> {
+    let mut diagram = policy(&rt, rt.alloc())?;
+    for (row, x, y, want) in CONTAINED {
+        let told = is_in_after(&rt, &mut diagram, row, x, y)?;
+        assert_eq!(rt; told, *want, "{x} in {y}");
+    }
+    Ok(())
+}
+
+// What would be refused: a user in `docs`, `docs` in itself, `memo` without a container, no `docs`.
+fn refusals(rt: &impl Abort, diagram: &Diagram) -> [&'static str; 4] {
+    let docs = live_named(rt, diagram, "docs");
+    let memo = live_named(rt, diagram, "memo");
+    [
+        word(diagram.check_create(Kind::User, named(rt, "eve"), Some(docs))),
+        word(diagram.check_assign(docs, docs)),
+        word(diagram.check_deassign(memo, docs)),
+        word(diagram.check_remove(docs)),
+    ]
+}
+
+#[test]
+fn what_would_be_refused(rt: HostRuntime) -> Result<(), Fail> {
+    let diagram = policy(&rt, rt.alloc())?;
+    let want = ["bad kinds", "cycle", "last container", "occupied"];
+    assert_eq!(rt; refusals(&rt, &diagram), want);
+    Ok(())
+}
+
+static MOVED: &[Row] = &[
+    (Call::Ua, "team", "files"),
+    (Call::Assign, "ann", "team"),
+    (Call::Deassign, "ann", "staff"),
+];
+
+// A copy in which `ann` is in `team` and no more in `staff`.
+fn moved_copy(rt: &impl Abort, diagram: &Diagram) -> Result<Diagram, ElementsError> {
+    let mut other = diagram.copy()?;
+    made(rt, &mut other, MOVED)?;
+    Ok(other)
+}
+
+#[test]
+fn a_copy_goes_its_own_way(rt: HostRuntime) -> Result<(), Fail> {
+    let mut diagram = policy(&rt, rt.alloc())?;
+    diagram.share()?;
+    let other = moved_copy(&rt, &diagram)?;
+    assert!(rt; is_in(&rt, &diagram, "ann", "staff"));
+    assert!(rt; !is_in(&rt, &other, "ann", "staff"));
+    Ok(())
+}

@@ -1,5 +1,0 @@
-use Rattle.pm_json.proofs.Taken.{command_word_is_taken}
-use Rattle.pm_json.proofs.laws.command_word_is_taken.Goals as goal
-
-pub returns : goal.returns
-returns c = command_word_is_taken

@@ -1,5 +1,0 @@
-use Rattle.pm_json.proofs.Replying.{line_has_one_meaning}
-use Rattle.pm_json.proofs.laws.line_has_one_meaning.Goals as goal
-
-pub returns : goal.returns
-returns c = line_has_one_meaning

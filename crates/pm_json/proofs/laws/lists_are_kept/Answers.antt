@@ -1,5 +1,0 @@
-use Rattle.pm_json.proofs.Lists.{lists_are_kept}
-use Rattle.pm_json.proofs.laws.lists_are_kept.Goals as goal
-
-pub returns : goal.returns
-returns c = lists_are_kept

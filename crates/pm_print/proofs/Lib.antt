@@ -1,0 +1,10 @@
+pub mod Appending
+pub mod Bounds
+pub mod Fair
+pub mod Fields
+pub mod Hex
+pub mod ItemTexts
+pub mod Members
+pub mod Replied
+pub mod Replying
+pub mod Texts

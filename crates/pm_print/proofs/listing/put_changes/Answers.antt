@@ -1,0 +1,11 @@
+-- One item more.
+use Rattle.std.proofs.Common.{arith}
+use Rattle.pm_print.proofs.Appending.{appended-then}
+use Rattle.pm_print.proofs.ItemTexts.{items_more}
+use Rattle.pm_model.specs.Text.{change_told}
+use Rattle.pm_print.proofs.listing.put_changes.Goals as goal
+
+pub loop-i-preserved : goal.loop-i-preserved
+loop-i-preserved c =
+    let more = items_more change_told c.args.changes.now c.loop-i.i c.index-changes-i.result c.loop-i-test.true c.index-changes-i.is in
+    appended-then _ _ _ _ _ _ _ _ _ c.loop-i.invariant c.in_ok-put_change.ensures more (omega arith)

@@ -1,0 +1,12 @@
+use Rattle.std.proofs.Common.{map, arith}
+use Rattle.std.proofs.lemmas.Grind.{common_steps}
+use Rattle.pm_model.specs.Text.{pair_told}
+use Rattle.pm_model.specs.Words.{key_text}
+use Rattle.pm_model.specs.declared.words.Key.TheVariants as key
+use Rattle.pm_print.proofs.ItemTexts.{list_member}
+use Rattle.pm_print.proofs.listing.put_list.Goals as goal
+
+pub returns : goal.returns
+returns g c =
+    let items = map (pair_told (g.N.NameOf.name_at c.args.names.now)) c.args.pairs.now in
+    rw (list_member (key_text key.List) items) (grind (arith, common_steps))

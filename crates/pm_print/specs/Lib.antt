@@ -1,0 +1,4 @@
+pub mod Growth
+pub mod Members
+pub mod Printable
+pub mod Shown

@@ -1,0 +1,24 @@
+//! Laws of the lines of replies: how long one can be, and that it has one meaning.
+
+ghost use Rattle.std.specs.Prelude.{ℕ, List, Option, length, ◌≡◌, ◌≤◌};
+ghost use Rattle.pm_model.specs.Text.{text};
+ghost use Rattle.pm_model.specs.declared.replies.Reply.{Reply};
+ghost use Rattle.pm_print.specs.Growth.{reply_most};
+ghost use Rattle.pm_print.specs.Printable.{IsPrintable};
+ghost use Rattle.pm_print.specs.Shown.{shown};
+
+/// The line of a reply has at most 1,024 bytes with its line feed, and one with a list at most 90 more for each of its items,
+/// or 107 more where the list tells what has changed.
+pub fn reply_is_short()
+    ensures { (id : Option ℕ) (version : ℕ) (names : ℕ → List ℕ) (reply : Reply)
+        → IsPrintable id version names reply → length (text id version names reply) ≤ reply_most reply }
+{}
+
+/// Two replies with one line show the same, with one id and at one version: they are one reply, but
+/// for the numbers of elements, where the elements' names are the same.
+pub fn line_has_one_meaning()
+    ensures { (id other_id : Option ℕ) (version other_version : ℕ) (names other_names : ℕ → List ℕ) (reply other : Reply)
+        → IsPrintable id version names reply → IsPrintable other_id other_version other_names other
+        → text id version names reply ≡ text other_id other_version other_names other
+        → (id ≡ other_id) × (version ≡ other_version) × (shown names reply ≡ shown other_names other) }
+{}

@@ -1,0 +1,9 @@
+use Rattle.std.proofs.Common.{◌≡◌, drop}
+use Rattle.serde_json.specs.View.{items_view}
+use Rattle.pm_model.specs.Forms.{list_of}
+use Rattle.pm_model.specs.ResponseForms.{action_form}
+use Rattle.pm_read.proofs.Items.{behind}
+use Rattle.pm_read.proofs.responses.actions_of.Given as goal
+
+abbrev pub invariant-loop-value : goal.invariant-loop-value
+invariant-loop-value l = behind l.actions (list_of action_form (items_view (drop l.value-index l.items))) ≡ list_of action_form (items_view l.items)

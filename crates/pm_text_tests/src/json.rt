@@ -1,4 +1,0 @@
-//! What lines ask, and the lines of replies.
-mod printing;
-mod reading;
-mod telling;

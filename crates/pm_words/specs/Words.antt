@@ -1,0 +1,72 @@
+-- What the words of the command line ask for.
+use Rattle.std.specs.Prelude.{◌≡◌, ◌≢◌, ◌≤◌, ℕ, List, [], ◌∷◌, ◌++◌, ⊤, Option, Some, None, bytes_eq, codes, decimal, find, map, drop, Result, IsOkAnd, MatchResult, String, string_bytes}
+use Rattle.std.specs.List.{concat}
+use Rattle.std.specs.Option.{IsSomeAnd}
+use Rattle.std.specs.Vec.Iter.{into_iter_items}
+use Rattle.std.specs.IoError.{error_kind}
+use Rattle.std.specs.declared.alloc.Global.{Global}
+use Rattle.std.specs.declared.io.Error.{Error}
+use Rattle.std.specs.declared.io.ErrorKind.TheVariants.{OutOfMemory}
+use Rattle.std.specs.declared.vec.IntoIter.{IntoIter}
+use Rattle.pm_words.specs.Lists.{Wanted, Entry, entries}
+use Rattle.pm_words.specs.declared.words.Asked.{Asked}
+use Rattle.pm_words.specs.declared.words.Asked.TheVariants.{Run, Serve}
+
+-- as many numbers as are wanted, each from its least to its most
+abbrev pub AreWithin : List Wanted → List ℕ → Type 0
+AreWithin [] [] = ⊤
+AreWithin [] (n ∷ ns) = ⊥
+AreWithin (w ∷ ws) [] = ⊥
+AreWithin (w ∷ ws) (n ∷ ns) = (w.least ≤ n) × (n ≤ w.most) × AreWithin ws ns
+
+-- the word of this name, where there is one
+abbrev pub entry_named : List ℕ → Option Entry
+entry_named name = find (λ entry. bytes_eq entry.name name) entries
+
+-- the words are one that there is, and then the numbers that have to stand behind it, in decimal digits with no zero in front
+pub record Says (words : List (List ℕ)) (name : List ℕ) (numbers : List ℕ) : Type 0 where
+  pub told : words ≡ name ∷ map decimal numbers
+  pub listed : IsSomeAnd (entry_named name) (λ entry. AreWithin entry.wanted numbers)
+
+abbrev pub IsRun : List (List ℕ) → Type 0
+IsRun words = Says words (codes "run") []
+
+abbrev pub IsServe : List (List ℕ) → ℕ → ℕ → Type 0
+IsServe words port workers = Says words (codes "serve") (port ∷ workers ∷ [])
+
+-- outside the grammar
+abbrev pub IsOther : List (List ℕ) → Type 0
+IsOther words = (name : List ℕ) (numbers : List ℕ) → ¬ (Says words name numbers)
+
+-- the words ask for this
+abbrev pub IsAsked : List (List ℕ) → Option Asked → Type 0
+IsAsked words (Some Run) = IsRun words
+IsAsked words (Some (Serve port workers)) = IsServe words port workers
+IsAsked words None = IsOther words
+
+-- the words behind the program's name
+abbrev pub words_of : IntoIter (String Global) Global → List (List ℕ)
+words_of args = map string_bytes (drop 1 (into_iter_items args))
+
+abbrev pub AskRun : Result (IntoIter (String Global) Global) Error → Type 0
+AskRun args = IsOkAnd args (λ words. IsRun (words_of words))
+
+abbrev pub AskServe : Result (IntoIter (String Global) Global) Error → ℕ → ℕ → Type 0
+AskServe args port workers = IsOkAnd args (λ words. IsServe (words_of words) port workers)
+
+-- they are outside the grammar; so is a word that is no text
+abbrev pub AskOther : Result (IntoIter (String Global) Global) Error → Type 0
+AskOther args = MatchResult args (λ words. IsOther (words_of words)) (λ e. error_kind e ≢ OutOfMemory)
+
+-- ---- the line that says which words there are
+
+abbrev pub spelled : Entry → List ℕ
+spelled entry = codes "ngac " ++ entry.name ++ concat (map (λ wanted. codes " " ++ wanted.label) entry.wanted)
+
+abbrev pub joined : List (List ℕ) → List ℕ
+joined [] = []
+joined (text ∷ []) = text
+joined (text ∷ next ∷ rest) = text ++ codes " | " ++ joined (next ∷ rest)
+
+abbrev pub usage_line : List ℕ
+usage_line = codes "usage: " ++ joined (map spelled entries) ++ codes "\n"

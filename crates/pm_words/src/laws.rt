@@ -1,0 +1,20 @@
+//! What the list of words comes to.
+//! Each function does nothing, and its contract is proved.
+ghost use Rattle.std.specs.Prelude.{◌≡◌, ◌↔◌, ◌<◌, ◌≤◌, ℕ, List, [], ◌∷◌, codes, decimal, true};
+ghost use Rattle.std.specs.List.{list_any};
+ghost use Rattle.pm_words.specs.Told.{is_flag};
+ghost use Rattle.pm_words.specs.Words.{IsRun, IsServe, IsOther};
+
+/// The words that there are, written out.
+#[tactic(auto, using(crate::proofs::Values::run_written_out, crate::proofs::Values::serve_written_out))]
+pub fn words_written_out()
+    ensures run { (words : List (List ℕ)) → IsRun words ↔ (words ≡ codes "run" ∷ []) }
+    ensures serve { (words : List (List ℕ)) (port workers : ℕ) → IsServe words port workers
+        ↔ ((words ≡ codes "serve" ∷ decimal port ∷ decimal workers ∷ []) × (port < 65536) × (0 < workers) × (workers ≤ 32)) }
+{}
+
+/// Words of which one begins with `-` are outside the grammar.
+#[tactic(auto, using(crate::proofs::Asking::flagged))]
+pub fn flags_are_outside()
+    ensures { (words : List (List ℕ)) → list_any is_flag words ≡ true → IsOther words }
+{}
