@@ -8,7 +8,7 @@ use pm_io::NoKeep;
 use pm_model::{Memory, Sink};
 use pm_publish::{Glimpse, NeverBack, Opened, Sealed};
 use pm_run::{Status, write_all};
-use pm_server::{Door, Entrance, Gateway, OpenError, PollFeed, open_gateway};
+use pm_server::{Door, Entrance, Gateway, OpenError, PollFeed, Watch, dismiss, open_gateway};
 use pm_step::Edition;
 use pm_worker::{Crew, OpenGate, run_workers};
 use std::alloc::Global;
@@ -50,7 +50,7 @@ where
     }
 }
 
-impl<'a, H: Home, R: Wait> Staff<'a, H, R> {
+impl<'a, H: Home, R: Wait + Clock> Staff<'a, H, R> {
     fn hire(&mut self, seat: Seat<Edition, H>, feed: PollFeed<'a, R>) -> Result<(), Memory>
         requires { feed.out ≡ None }
     {
@@ -59,8 +59,12 @@ impl<'a, H: Home, R: Wait> Staff<'a, H, R> {
     }
 }
 
-impl<'a, H: Home + Send + Sync, R: Threads + Wait + Alloc<A = Global> + Sync> Staff<'a, H, R> {
-    // All work, until polling fails.
+impl<'a, H: Home + Send + Sync, R: Threads + Wait + Clock + Alloc<A = Global> + Sync> Staff<
+    'a,
+    H,
+    R,
+> {
+    // All work, until the server is at its end.
     fn work(self, rt: &R, house: &House<Edition, NoKeep, H>) {
         let Staff { mut crew } = self;
         run_workers(rt, rt.alloc(), house, &mut crew, &OpenGate);
@@ -68,9 +72,10 @@ impl<'a, H: Home + Send + Sync, R: Threads + Wait + Alloc<A = Global> + Sync> St
 }
 
 // A worker for each seat, and the door to it.
-fn hire_all<'a, H: Home, R: Wait + Net>(
+fn hire_all<'a, H: Home, R: Wait + Net + Clock>(
     rt: &'a R,
     alloc: Global,
+    watch: &'a Watch,
     seats: &mut Seats<Edition, H>,
     staff: &mut Staff<'a, H, R>,
     doors: &mut Vec<Door>,
@@ -80,7 +85,7 @@ fn hire_all<'a, H: Home, R: Wait + Net>(
         let Some(seat) = seats.seat(place) else {
             return Ok(());
         };
-        let Gateway { door, feed } = open_gateway(rt, alloc)?;
+        let Gateway { door, feed } = open_gateway(rt, alloc, watch)?;
         staff.hire(seat, feed)?;
         doors.push(door)?;
     }
@@ -94,7 +99,25 @@ fn tell<O: Sink>(alloc: Global, out: &mut O, port: u16) -> Result<(), Memory> {
     Ok(())
 }
 
-// Serves what comes, for ever; or tells why it can't begin.
+// Tells where it listens once each worker has begun, and leaves connections at their doors. It comes back where the server
+// can't go on.
+fn attend<O: Sink, R: Wait + Clock + Alloc<A = Global>>(
+    rt: &R,
+    out: &mut O,
+    watch: &Watch,
+    entrance: &mut Entrance,
+    doors: &mut [Door],
+    port: u16,
+) {
+    if entrance.await_workers(rt, watch, doors.len() as u64)
+        && tell(rt.alloc(), out, port).is_ok()
+    {
+        entrance.accept_all(rt, watch, doors);
+    }
+    dismiss(watch, doors);
+}
+
+// Serves what comes, until it can't go on; or tells why it can't begin.
 fn run_house<
     H: Home + Send + Sync,
     O: Sink,
@@ -112,6 +135,8 @@ fn run_house<
     requires seats { (0 < workers) × (workers ≤ 32) × (H.all ≡ workers) × (H.parts ≡ workers) }
 {
     let mut entrance = Entrance::open(rt, rt.alloc(), port)?;
+    let watch = entrance.watch()?;
+    let port = entrance.port()?;
     let (house, mut seats) = House::<Edition, NoKeep, H>::open(
         rt.alloc(),
         opened,
@@ -123,18 +148,25 @@ fn run_house<
         crew: Vec::new(rt.alloc()),
     };
     let mut doors = Vec::new(rt.alloc());
-    hire_all(rt, rt.alloc(), &mut seats, &mut staff, &mut doors, workers)?;
-    tell(rt.alloc(), out, entrance.port()?)?;
+    hire_all(
+        rt,
+        rt.alloc(),
+        &watch,
+        &mut seats,
+        &mut staff,
+        &mut doors,
+        workers,
+    )?;
     thread::join(
         rt,
-        || entrance.accept_all(rt, &mut doors),
         || staff.work(rt, &house),
+        || attend(rt, out, &watch, &mut entrance, &mut doors, port),
     );
     Ok(())
 }
 
-/// Listens on this port of 127.0.0.1, tells the port on `out`, and serves each connection by one of so many workers, until
-/// the process is ended. It comes back only where it can't begin.
+/// Listens on this port of 127.0.0.1, tells the port on `out` once all workers have begun, and serves each connection by one
+/// of so many workers, until the process is ended. It comes back only where it can't begin, or can't go on.
 pub(crate) fn serve<O: Sink, R: Threads + Wait + Net + Clock + Alloc<A = Global> + Sync>(
     rt: &R,
     out: &mut O,
@@ -146,7 +178,7 @@ pub(crate) fn serve<O: Sink, R: Threads + Wait + Net + Clock + Alloc<A = Global>
     let workers = u32::from(workers);
     let (opened, blank) = house_room(workers);
     match run_house::<Brand, O, R>(rt, out, opened, blank, port, workers) {
-        Ok(()) => Status::Done,
+        Ok(()) => Status::ServeFault,
         Err(OpenError::Memory) => Status::Memory,
         Err(OpenError::System) => Status::ListenFault,
     }

@@ -1,5 +1,6 @@
--- How many rights are judged: for one change, by the lists of kept reviews, and over a history; and counts up to the highest.
-use Rattle.std.proofs.Common.{◌≡◌, ◌<◌, ◌+◌, ◌^◌, ℕ, Bool, true, false, ◌&&◌, List, [], ◌∷◌, ◌++◌, length, filter, Option, None, is_some, Result, Ok, Err, refl, ◌∙◌, ap, ◌==◌, arith}
+-- How many rights are judged: for one change, by the lists of kept reviews. How much work a history takes; and counts up to the
+-- highest.
+use Rattle.std.proofs.Common.{◌≡◌, ◌<◌, ◌+◌, ◌^◌, ℕ, Bool, true, false, ◌&&◌, List, [], ◌∷◌, ◌++◌, length, filter, Option, Some, None, is_some, Result, Ok, Err, refl, ◌∙◌, ap, codes, ◌==◌, arith}
 use Rattle.std.specs.List.{list_any}
 use Rattle.std.proofs.lemmas.List.Sums.{sum_by-append, sum_by-cons}
 use Rattle.pm_model.specs.Answer.{after, answer}
@@ -12,18 +13,19 @@ use Rattle.pm_model.specs.Responses.{acted, response_from}
 use Rattle.pm_model.specs.Reviews.{numbers_in, users_in}
 use Rattle.pm_model.specs.State.{Graph, State, opening}
 use Rattle.pm_model.specs.declared.actions.Action.{Action}
+use Rattle.pm_model.specs.declared.elements.Kind.TheVariants.{Object, Pc}
 use Rattle.pm_model.specs.declared.events.Event.{Event}
 use Rattle.pm_model.specs.declared.events.EventNames.{EventNames}
 use Rattle.pm_model.specs.declared.obligations.Obligation.{Obligation}
 use Rattle.pm_model.specs.declared.replies.Refusal.{Refusal}
 use Rattle.pm_model.specs.declared.requests.Change.{Change}
-use Rattle.pm_model.specs.declared.requests.Change.TheVariants.{Dissociate, Assign, Keep, DropReview, Prohibit}
+use Rattle.pm_model.specs.declared.requests.Change.TheVariants.{Create, Delete, Dissociate, Assign, Keep, DropReview, Prohibit}
 use Rattle.pm_model.specs.declared.requests.Entry.{Entry}
 use Rattle.pm_model.specs.declared.reviews.ReviewOf.{ReviewOf}
 use Rattle.pm_model.specs.declared.reviews.ReviewOf.TheVariants.{Caps, Entries}
 use Rattle.pm_affect.specs.Affected.{is_in, region_of}
 use Rattle.pm_affect.specs.Changes.{Turn, changes_acted, changes_on, changes_responded, changes_response_from, changes_responses_from}
-use Rattle.pm_affect.specs.Counting.{capped, count_on, is_reviewed, judged_acted, judged_by, judged_entered, judged_for, judged_from, judged_in, judged_over, judged_pairs, judged_responded, judged_response_from, judged_responses_from}
+use Rattle.pm_affect.specs.Counting.{Work, capped, count_on, is_reviewed, judged_for, judged_pairs, rows_for, rows_of, work_acted, work_by, work_entered, work_for, work_from, work_in, work_over, work_responded, work_response_from, work_responses_from}
 use Rattle.pm_affect.specs.Example.{graph, hold}
 use Rattle.pm_affect.specs.Judged.{in_scope, judged, pairs_of}
 use Rattle.pm_affect.specs.Lists.{Listed, Lists, is_among, list_in, pairs_of_some, subjects}
@@ -35,6 +37,12 @@ pub counted : (judged_for graph (Dissociate 4 5) ≡ 3) × (judged_for graph (Di
     × (judged_for graph (Keep (Caps 8)) ≡ 0) × (judged_for graph (DropReview 1) ≡ 0) × (judged_for graph (Prohibit hold) ≡ 0)
 unfolding contained judged_for
 counted = (refl, refl, refl, refl, refl, refl)
+
+pub rows_counted : (rows_for graph (Create 9 Pc (codes "new") None) ≡ 1) × (rows_for graph (Create 9 Object (codes "new") (Some 5)) ≡ 2)
+    × (rows_for graph (Delete 8) ≡ 0) × (rows_for graph (Assign 6 3) ≡ 1) × (rows_for graph (Assign 5 0) ≡ 2)
+    × (rows_for graph (Assign 5 3) ≡ 0) × (rows_for graph (Dissociate 4 5) ≡ 0)
+unfolding contained rows_for
+rows_counted = (refl, refl, refl, refl, refl, refl, refl)
 
 -- ---- counts up to the highest
 
@@ -53,78 +61,79 @@ pub count-none : {A E : Type 0} (r : Result A E) → count_on r (λ a. 0) ≡ 0
 count-none (Ok a) = refl
 count-none (Err why) = refl
 
--- ---- a history
+module _ (w : Work) where
+  -- ---- a history
 
-judged-more : (S : State) (entries : List Entry) (entry : Entry) →
-    judged_from S (entries ++ entry ∷ []) ≡ judged_from S entries + judged_by (replay_from S entries) entry.request
-judged-more S [] entry = omega arith
-judged-more S (e ∷ entries) entry = let rest = judged-more (after S (answer S e.request)) entries entry in omega (arith, rest)
+  work-more : (S : State) (entries : List Entry) (entry : Entry) →
+      work_from w S (entries ++ entry ∷ []) ≡ work_from w S entries + work_by w (replay_from S entries) entry.request
+  work-more S [] entry = omega arith
+  work-more S (e ∷ entries) entry = let rest = work-more (after S (answer S e.request)) entries entry in omega (arith, rest)
 
-pub judged_grown : (entries : List Entry) (entry : Entry) →
-    judged_in (entries ++ entry ∷ []) ≡ judged_in entries + judged_by (replay entries) entry.request
-judged_grown entries entry = judged-more opening entries entry
+  pub work_grown : (entries : List Entry) (entry : Entry) →
+      work_in w (entries ++ entry ∷ []) ≡ work_in w entries + work_by w (replay entries) entry.request
+  work_grown entries entry = work-more opening entries entry
 
--- by a machine that is the replay of its history
-pub judged-on : (M : Machine) (entry : Entry) → IsReplayed M →
-    judged_in (M.history ++ entry ∷ []) ≡ judged_in M.history + judged_by (state_of M) entry.request
-judged-on M entry r =
-    judged_grown M.history entry ∙ ap (λ (S : State). judged_in M.history + judged_by S entry.request) r.content
+  -- by a machine that is the replay of its history
+  pub work-on : (M : Machine) (entry : Entry) → IsReplayed M →
+      work_in w (M.history ++ entry ∷ []) ≡ work_in w M.history + work_by w (state_of M) entry.request
+  work-on M entry r =
+      work_grown M.history entry ∙ ap (λ (S : State). work_in w M.history + work_by w S entry.request) r.content
 
-pub grown-none : (M : Machine) (entry : Entry) → IsReplayed M → judged_by (state_of M) entry.request ≡ 0 →
-    judged_in (M.history ++ entry ∷ []) ≡ judged_in M.history
-grown-none M entry r none = let on = judged-on M entry r in omega (arith, on, none)
+  pub grown-none : (M : Machine) (entry : Entry) → IsReplayed M → work_by w (state_of M) entry.request ≡ 0 →
+      work_in w (M.history ++ entry ∷ []) ≡ work_in w M.history
+  grown-none M entry r none = let on = work-on M entry r in omega (arith, on, none)
 
--- ---- sums over changes
+  -- ---- sums over changes
 
--- of what comes
-pub over-on : {A E : Type 0} (r : Result A E) (changes : A → List Turn) →
-    judged_over (changes_on r changes) ≡ count_on r (λ a. judged_over (changes a))
-over-on (Ok a) changes = refl
-over-on (Err why) changes = refl
+  -- of what comes
+  pub over-on : {A E : Type 0} (r : Result A E) (changes : A → List Turn) →
+      work_over w (changes_on r changes) ≡ count_on r (λ a. work_over w (changes a))
+  over-on (Ok a) changes = refl
+  over-on (Err why) changes = refl
 
--- and of what comes of that
-pub over-both : {A B E F : Type 0} (r : Result A E) (s : A → Result B F) (changes : A → B → List Turn) →
-    judged_over (changes_on r (λ a. changes_on (s a) (changes a))) ≡ count_on r (λ a. count_on (s a) (λ b. judged_over (changes a b)))
-over-both (Ok a) s changes = over-on (s a) (changes a)
-over-both (Err why) s changes = refl
+  -- and of what comes of that
+  pub over-both : {A B E F : Type 0} (r : Result A E) (s : A → Result B F) (changes : A → B → List Turn) →
+      work_over w (changes_on r (λ a. changes_on (s a) (changes a))) ≡ count_on r (λ a. count_on (s a) (λ b. work_over w (changes a b)))
+  over-both (Ok a) s changes = over-on (s a) (changes a)
+  over-both (Err why) s changes = refl
 
--- of some and then of what comes
-over-more : {A E : Type 0} (turns : List Turn) (r : Result A E) (changes : A → List Turn) →
-    judged_over (turns ++ changes_on r changes) ≡ judged_over turns + count_on r (λ a. judged_over (changes a))
-over-more turns r changes =
-    sum_by-append (λ (t : Turn). judged_for t.0 t.1) turns (changes_on r changes) ∙ ap (λ n. judged_over turns + n) (over-on r changes)
+  -- of some and then of what comes
+  over-more : {A E : Type 0} (turns : List Turn) (r : Result A E) (changes : A → List Turn) →
+      work_over w (turns ++ changes_on r changes) ≡ work_over w turns + count_on r (λ a. work_over w (changes a))
+  over-more turns r changes =
+      sum_by-append (λ (t : Turn). work_for w t.0 t.1) turns (changes_on r changes) ∙ ap (λ n. work_over w turns + n) (over-on r changes)
 
-module _ (names : EventNames) (version : ℕ) where
-  pub response-more : (o : Obligation) (place number : ℕ) (G : Graph) (action : Action) (actions : List Action) →
-      judged_response_from names version o place number G (action ∷ actions)
-      ≡ judged_acted names version G o.author (record { obligation = place; action = number }) action
-      + count_on (acted names version G o.author (record { obligation = place; action = number }) action) (λ next.
-      judged_response_from names version o place (number + 1) next actions)
-  response-more o place number G action actions =
-      over-more (changes_acted names version G o.author (record { obligation = place; action = number }) action)
-      (acted names version G o.author (record { obligation = place; action = number }) action)
-      (λ next. changes_response_from names version o place (number + 1) next actions)
+  module _ (names : EventNames) (version : ℕ) where
+    pub response-more : (o : Obligation) (place number : ℕ) (G : Graph) (action : Action) (actions : List Action) →
+        work_response_from w names version o place number G (action ∷ actions)
+        ≡ work_acted w names version G o.author (record { obligation = place; action = number }) action
+        + count_on (acted names version G o.author (record { obligation = place; action = number }) action) (λ next.
+        work_response_from w names version o place (number + 1) next actions)
+    response-more o place number G action actions =
+        over-more (changes_acted names version G o.author (record { obligation = place; action = number }) action)
+        (acted names version G o.author (record { obligation = place; action = number }) action)
+        (λ next. changes_response_from names version o place (number + 1) next actions)
 
-  pub responses-more : (place : ℕ) (G : Graph) (o : Obligation) (obligations : List Obligation) →
-      judged_responses_from names version place G (o ∷ obligations)
-      ≡ judged_response_from names version o place 1 G o.response
-      + count_on (response_from names version o place 1 G o.response) (λ next. judged_responses_from names version (place + 1) next obligations)
-  responses-more place G o obligations =
-      over-more (changes_response_from names version o place 1 G o.response) (response_from names version o place 1 G o.response)
-      (λ next. changes_responses_from names version (place + 1) next obligations)
+    pub responses-more : (place : ℕ) (G : Graph) (o : Obligation) (obligations : List Obligation) →
+        work_responses_from w names version place G (o ∷ obligations)
+        ≡ work_response_from w names version o place 1 G o.response
+        + count_on (response_from names version o place 1 G o.response) (λ next. work_responses_from w names version (place + 1) next obligations)
+    responses-more place G o obligations =
+        over-more (changes_response_from names version o place 1 G o.response) (response_from names version o place 1 G o.response)
+        (λ next. changes_responses_from names version (place + 1) next obligations)
 
--- for a change, and for the responses to its event
-pub entered-more : (S : State) (e : Option Event) (c : Change) →
-    judged_entered S e c
-    ≡ judged_for S.graph c + count_on (effect S.graph c) (λ G. judged_responded S e (responders S.graph (obliging S.graph c) e) G)
-entered-more S e c =
-    sum_by-cons (λ (t : Turn). judged_for t.0 t.1) (S.graph, c)
-    (changes_on (effect S.graph c) (λ G. changes_responded S e (responders S.graph (obliging S.graph c) e) G))
-    ∙ ap (λ n. judged_for S.graph c + n) (over-on (effect S.graph c) (λ G. changes_responded S e (responders S.graph (obliging S.graph c) e) G))
+  -- for a change, and for the responses to its event
+  pub entered-more : (S : State) (e : Option Event) (c : Change) →
+      work_entered w S e c
+      ≡ work_for w S.graph c + count_on (effect S.graph c) (λ G. work_responded w S e (responders S.graph (obliging S.graph c) e) G)
+  entered-more S e c =
+      sum_by-cons (λ (t : Turn). work_for w t.0 t.1) (S.graph, c)
+      (changes_on (effect S.graph c) (λ G. changes_responded S e (responders S.graph (obliging S.graph c) e) G))
+      ∙ ap (λ n. work_for w S.graph c + n) (over-on (effect S.graph c) (λ G. changes_responded S e (responders S.graph (obliging S.graph c) e) G))
 
--- an entry to which nothing responds
-pub judged_alone : (S : State) (c : Change) → judged_entered S None c ≡ judged_for S.graph c
-judged_alone S c = let none = count-none (effect S.graph c) in let all = entered-more S None c in omega (arith, none, all)
+  -- an entry to which nothing responds
+  pub work_alone : (S : State) (c : Change) → work_entered w S None c ≡ work_for w S.graph c
+  work_alone S c = let none = count-none (effect S.graph c) in let all = entered-more S None c in omega (arith, none, all)
 
 -- ---- one change
 
@@ -135,6 +144,10 @@ judged-made G H c made = rw made refl
 judged-refused : (G : Graph) (c : Change) (why : Refusal) → effect G c ≡ Err why → judged_for G c ≡ 0
 unfolding judged_for
 judged-refused G c why is = rw is refl
+
+pub rows-made : (G H : Graph) (c : Change) → effect G c ≡ Ok H → rows_for G c ≡ rows_of G c
+unfolding rows_for
+rows-made G H c made = rw made refl
 
 -- a change for which nothing is judged where it is made
 pub judged-never : (G : Graph) (c : Change) → ((H : Graph) → effect G c ≡ Ok H → judged_for G c ≡ 0) → judged_for G c ≡ 0

@@ -1,10 +1,12 @@
 -- The region of a change row by row: which elements lie in it with one user. The project's own.
-use Rattle.std.specs.Prelude.{◌≡◌, ◌/◌, ℕ, Bool, true, false, ◌==◌, if◌then◌else◌, List, map, filter, Option, None, Some}
+use Rattle.std.specs.Prelude.{◌≡◌, ◌/◌, ℕ, Bool, true, false, ◌==◌, ◌&&◌, ◌||◌, not, if◌then◌else◌, length, List, map, filter, Option, None, Some}
+use Rattle.std.specs.List.{list_any}
 use Rattle.pm_model.specs.Containment.{Relation}
 use Rattle.pm_model.specs.Decision.{range_by, applies_by}
 use Rattle.pm_model.specs.declared.prohibitions.Subject.{Subject}
 use Rattle.pm_model.specs.declared.prohibitions.Subject.TheVariants.{Process}
 use Rattle.pm_decide.specs.Live.{IsLive}
+use Rattle.pm_affect.specs.Lists.{Lists, subjects}
 use Rattle.pm_affect.specs.declared.touching.Side.{Side}
 use Rattle.pm_affect.specs.declared.touching.Side.TheVariants.{User, Element}
 use Rattle.pm_affect.specs.declared.region.Region.{Region}
@@ -56,6 +58,13 @@ is_wide _ = false
 abbrev pub near_on : Side → (ℕ → ℕ → Bool) → Region → ℕ → Bool
 near_on User below region u = has_near below region u
 near_on Element below region e = is_near below region e
+
+-- some pair of the region may lie in the scope of a kept review, whose lists these are: all pairs of some users do, or some of
+-- those that the reviews are of are near
+abbrev pub may_touch : (ℕ → ℕ → Bool) → Region → Lists → Bool
+may_touch below region L =
+    not (is_nothing region || (length L.caps == 0 && length L.entries == 0))
+    && (is_wide region || list_any (near_on User below region) (subjects L.caps) || list_any (near_on Element below region) (subjects L.entries))
 
 -- no live number of the 64 that are passed by passes the test
 abbrev pub ArePassed : (ℕ → Bool) → Relation → Option ℕ → Type 0

@@ -1,6 +1,6 @@
 //! What the region of a change leaves as it is, and what is judged again.
 
-ghost use Rattle.std.specs.Prelude.{◌≡◌, ℕ, List, [], ◌∷◌, ◌++◌, Bool, true, false, Ok, Contains, IsTrue, is_some, length, map, ◌+◌, ◌*◌, ◌^◌, ◌≤◌, ◌↔◌};
+ghost use Rattle.std.specs.Prelude.{◌≡◌, ℕ, List, [], ◌∷◌, ◌++◌, Bool, true, false, None, Some, Ok, Contains, codes, IsTrue, is_some, length, map, ◌+◌, ◌*◌, ◌^◌, ◌≤◌, ◌↔◌};
 ghost use Rattle.std.specs.List.{list_any};
 ghost use Rattle.pm_model.specs.Containment.{Relation, contained};
 ghost use Rattle.pm_model.specs.Decision.{Judgement};
@@ -10,11 +10,12 @@ ghost use Rattle.pm_model.specs.History.{replay};
 ghost use Rattle.pm_model.specs.KeptReviews.{is_kept_of};
 ghost use Rattle.pm_model.specs.Reviews.{list_of, numbers_in, rights_in, users_in};
 ghost use Rattle.pm_model.specs.State.{Graph};
+ghost use Rattle.pm_model.specs.declared.elements.Kind.{Kind};
 ghost use Rattle.pm_model.specs.declared.requests.Change.{Change};
 ghost use Rattle.pm_model.specs.declared.requests.Entry.{Entry};
 ghost use Rattle.pm_model.specs.declared.reviews.ReviewOf.{ReviewOf};
 ghost use Rattle.pm_affect.specs.Affected.{is_in, region, region_after, region_of};
-ghost use Rattle.pm_affect.specs.Counting.{judged_by, judged_for, judged_in};
+ghost use Rattle.pm_affect.specs.Counting.{Work, judged_for, rows_for, work_by, work_in};
 ghost use Rattle.pm_affect.specs.Example.{count, graph, hold};
 ghost use Rattle.pm_affect.specs.Judged.{in_scope, judged};
 ghost use Rattle.pm_affect.specs.Lists.{AreKept, IsInOrder, Lists, Rise, inserted, is_among, list_in, removed};
@@ -131,10 +132,17 @@ pub fn judged_worked()
     ensures { (judged_for graph (Change.Dissociate 4 5) ≡ 3) × (judged_for graph (Change.Dissociate 4 6) ≡ 0) × (judged_for graph (Change.Assign 6 3) ≡ 3) × (judged_for graph (Change.Keep (ReviewOf.Caps 8)) ≡ 0) × (judged_for graph (Change.DropReview 1) ≡ 0) × (judged_for graph (Change.Prohibit hold) ≡ 0) }
 {}
 
-/// An entry adds what is judged by its request in the state that the entries before it lead to.
-#[tactic(auto, using(crate::proofs::Counting::judged_grown))]
-pub fn judged_grown()
-    ensures { (entries : List Entry) (entry : Entry) → judged_in (entries ++ entry ∷ []) ≡ judged_in entries + judged_by (replay entries) entry.request }
+/// The same policy: how many rows a few changes write. What is refused writes none, nor does a change of what isn't contained.
+#[tactic(auto, using(crate::proofs::Counting::rows_counted))]
+pub fn rows_worked()
+    ensures made { (rows_for graph (Change.Create 9 Kind.Pc (codes "new") None) ≡ 1) × (rows_for graph (Change.Create 9 Kind.Object (codes "new") (Some 5)) ≡ 2) × (rows_for graph (Change.Delete 8) ≡ 0) }
+    ensures assigned { (rows_for graph (Change.Assign 6 3) ≡ 1) × (rows_for graph (Change.Assign 5 0) ≡ 2) × (rows_for graph (Change.Assign 5 3) ≡ 0) × (rows_for graph (Change.Dissociate 4 5) ≡ 0) }
+{}
+
+/// An entry adds the work of its request in the state that the entries before it lead to.
+#[tactic(auto, using(crate::proofs::Counting::work_grown))]
+pub fn work_grown()
+    ensures { (w : Work) (entries : List Entry) (entry : Entry) → work_in w (entries ++ entry ∷ []) ≡ work_in w entries + work_by w (replay entries) entry.request }
 {}
 
 /// How many rights are judged for a change is how many pairs `update` judges by lists of the reviews that are kept after it.

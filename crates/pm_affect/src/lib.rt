@@ -11,9 +11,9 @@ mod sides;
 mod touching;
 
 pub use laws::{
-    agreed_right, anew_given, judged_counted, judged_grown, judged_listed, judged_once,
-    judged_worked, list_in_order, lists_right, lists_stay, made_right, numbers_asked, numbers_rise,
-    region_kept, region_live, region_named, rights_outside, untouched_right,
+    agreed_right, anew_given, judged_counted, judged_listed, judged_once, judged_worked,
+    list_in_order, lists_right, lists_stay, made_right, numbers_asked, numbers_rise, region_kept,
+    region_live, region_named, rights_outside, rows_worked, untouched_right, work_grown,
 };
 pub use lists::KeptLists;
 pub use region::Region;

@@ -7,7 +7,7 @@ ghost use Rattle.pm_affect.specs.Affected.{is_in};
 ghost use Rattle.pm_affect.specs.Judged.{in_scope};
 ghost use Rattle.pm_affect.specs.Lists.{subjects};
 ghost use Rattle.pm_affect.specs.Live.{RegionLive};
-ghost use Rattle.pm_affect.specs.Rows.{ArePassed, near_on};
+ghost use Rattle.pm_affect.specs.Rows.{ArePassed, may_touch, near_on};
 
 use crate::items::Item;
 use crate::lists::KeptLists;
@@ -90,8 +90,8 @@ fn some_near<R: Reach>(side: Side, items: &[Item], region: &Region, reach: &mut 
     false
 }
 
-/// Whether a pair of the region may lie in the scope of a kept review. It may say yes where none does, and never no where one
-/// does.
+/// Whether a pair of the region may lie in the scope of a kept review, as far as each of the two tells: it may say yes where
+/// none does, and never no where one does.
 ///
 /// It asks the region once at most for each kept review, or for 64 numbers at once where none of them may be in it, and not at
 /// all where the region has no pair, or where all pairs of some user lie in it: a question is one of containment, or as many as
@@ -100,6 +100,7 @@ pub fn touches<R: Reach>(lists: &KeptLists, region: &Region, reach: &mut R) -> b
     requires region { RegionLive (R.relation reach.old) region.now }
     requires users { AllLive (R.relation reach.old) (subjects lists.now.caps) }
     requires elements { AllLive (R.relation reach.old) (subjects lists.now.entries) }
+    ensures answer { result ≡ may_touch (R.relation reach.old).below region.now lists.now }
     ensures none { result ≡ false → (u e : ℕ) → in_scope lists.now u e ≡ true → is_in (R.relation reach.old).below region.now u e ≡ false }
     ensures same { R.relation reach.new ≡ R.relation reach.old }
 {

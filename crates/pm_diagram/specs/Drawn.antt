@@ -9,7 +9,7 @@ use Rattle.pm_diagram.specs.Shape.{Shape}
 use Rattle.pm_diagram.specs.declared.diagram.Diagram.TheInside.{Inside}
 
 abbrev pub shape_of : Inside → Shape
-shape_of d = record { elements = d.elements.elements; assigned = d.elements.assigned; written = d.rows.written }
+shape_of d = record { elements = d.elements.elements; assigned = d.elements.assigned }
 
 -- both ends are live
 abbrev pub JoinsLive : List Element → (ℕ × ℕ) → Type 0

@@ -8,8 +8,6 @@ pub record Shape : Type 0 where
   pub elements : List Element
   -- the assignments, by rising element assigned, those of one in order of creation
   pub assigned : List (ℕ × ℕ)
-  -- how many rows were written since the opening, up to 2^64 - 1
-  pub written : ℕ
 
 -- how many live elements are contained in x, itself among them
 abbrev pub count_inside : List Element → List (ℕ × ℕ) → ℕ → ℕ

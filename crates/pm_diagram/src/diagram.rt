@@ -13,7 +13,7 @@ ghost use Rattle.pm_model.specs.Results.{first_of};
 ghost use Rattle.pm_model.specs.State.{element, element_at, is_numbered, opening_elements, opening_assigned};
 ghost use Rattle.pm_elements.specs.Checks.{remove_checks};
 ghost use Rattle.pm_elements.specs.Told.{told, IsCycleOf};
-ghost use Rattle.pm_reach.specs.Rows.{has, counted};
+ghost use Rattle.pm_reach.specs.Rows.{has};
 ghost use Rattle.pm_reach.specs.Changes.{TellContainment};
 ghost use Rattle.pm_diagram.specs.Shape.{count_inside};
 
@@ -24,9 +24,7 @@ use std::alloc::Global;
 use std::marker::Model;
 
 /// The live policy elements, their assignments, and the containment that these make. Contracts see the
-/// two lists, and how many rows were written since the opening: where an assignment comes or goes, that of
-/// each element that is contained in the one assigned; for an element that is made, its own, and once more
-/// where it is made in a container.
+/// two lists.
 pub struct Diagram {
     elements: Elements,
     rows: ReachRows,
@@ -58,7 +56,6 @@ impl Diagram {
     pub fn opening(alloc: Global) -> Result<Diagram, Memory>
         ensures elements { IfOk result (λ d. d.elements ≡ opening_elements) }
         ensures assigned { IfOk result (λ d. d.assigned ≡ opening_assigned) }
-        ensures written { IfOk result (λ d. d.written ≡ 0) }
     {
         let elements = Elements::opening(alloc)?;
         let rows = ReachRows::opening(alloc)?;
@@ -95,7 +92,6 @@ impl Diagram {
     pub fn rows(&self) -> &ReachRows
         ensures live { (x : ℕ) → has result.now.rows x ≡ is_some (element_at self.now.elements x) }
         ensures rows { TellContainment self.now.assigned result.now.rows }
-        ensures written { result.now.written ≡ self.now.written }
     {
         &self.rows
     }
@@ -173,7 +169,6 @@ impl Diagram {
         ensures few { IfOk result (λ n. n < max_elements) }
         ensures elements { OnOk result (self.new.elements ≡ placed (element (unused self.old.elements) kind name) self.old.elements) }
         ensures assigned { OnOk result (self.new.assigned ≡ with_pair into (unused self.old.elements) self.old.assigned) }
-        ensures written { OnOk result (self.new.written ≡ counted self.old.written (if is_some into then 2 else 1)) }
         ensures refused { IfErr result (λ e. IsCause (first_of (create_checks self.old.elements self.old.assigned kind name into)) (told e)) }
         ensures err { OnErr result (self.new ≡ self.old) }
     {
@@ -202,13 +197,15 @@ impl Diagram {
         self.elements.check_assign(x, y, self.contains(y, x))
     }
 
-    /// Assigns x to y, both live. It is refused as `check_assign` says; `Memory` where there was none. Where x is contained in y
-    /// already, rows stay as they are, and are counted as written.
-    pub fn assign(&mut self, x: ElementId, y: ElementId) -> Result<(), ElementsError>
+    /// Assigns x to y, both live. It is refused as `check_assign` says; `Memory` where there was none. It answers how many rows
+    /// it wrote, those of all that is contained in x. Where x is contained in y already, they stay as they are, and count as
+    /// written.
+    pub fn assign(&mut self, x: ElementId, y: ElementId) -> Result<u64, ElementsError>
         requires x_live { IsLive self.old.elements x }
         requires y_live { IsLive self.old.elements y }
         ensures fits { OnOk result (first_of (assign_checks self.old.elements self.old.assigned x y) ≡ None) }
-        ensures ok { OnOk result (self.new ≡ record self.old { assigned = with_assignment (x, y) self.old.assigned; written = counted self.old.written (count_inside self.old.elements self.old.assigned x) }) }
+        ensures ok { OnOk result (self.new ≡ record self.old { assigned = with_assignment (x, y) self.old.assigned }) }
+        ensures count { IfOk result (λ n. n ≡ count_inside self.old.elements self.old.assigned x) }
         ensures refused { IfErr result (λ e. IsCause (first_of (assign_checks self.old.elements self.old.assigned x y)) (told e)) }
         ensures ends { IfErr result (IsCycleOf x y) }
         ensures err { OnErr result (self.new ≡ self.old) }
@@ -218,13 +215,11 @@ impl Diagram {
         if self.contains(x, y) {
             let same = self.rows.inside(x)?;
             self.elements.assign(x, y, closes)?;
-            self.rows.count(same);
-            return Ok(());
+            return Ok(same);
         }
         self.rows.prepare(Step::Assign { x, y })?;
         self.elements.assign(x, y, closes)?;
-        self.rows.follow_assign(x, y);
-        Ok(())
+        Ok(self.rows.follow_assign(x, y))
     }
 
     /// Whether the assignment of x to y, both live, could be taken away: `Absent`, `LastContainer`
@@ -240,13 +235,14 @@ impl Diagram {
     }
 
     /// Takes the assignment of x to y away, both live. It is refused as `check_deassign` says; `Memory`
-    /// where there was none for the rows that are made anew. Where another element that x is assigned to is contained in y,
-    /// rows stay as they are, and are counted as written.
-    pub fn deassign(&mut self, x: ElementId, y: ElementId) -> Result<(), ElementsError>
+    /// where there was none for the rows that are made anew. It answers how many rows it wrote, those of all that is contained
+    /// in x. Where another element that x is assigned to is contained in y, they stay as they are, and count as written.
+    pub fn deassign(&mut self, x: ElementId, y: ElementId) -> Result<u64, ElementsError>
         requires x_live { IsLive self.old.elements x }
         requires y_live { IsLive self.old.elements y }
         ensures fits { OnOk result (first_of (deassign_checks self.old.assigned x y) ≡ None) }
-        ensures ok { OnOk result (self.new ≡ record self.old { assigned = filter (λ pair. not (is_pair x y pair)) self.old.assigned; written = counted self.old.written (count_inside self.old.elements self.old.assigned x) }) }
+        ensures ok { OnOk result (self.new ≡ record self.old { assigned = filter (λ pair. not (is_pair x y pair)) self.old.assigned }) }
+        ensures count { IfOk result (λ n. n ≡ count_inside self.old.elements self.old.assigned x) }
         ensures refused { IfErr result (λ e. IsCause (first_of (deassign_checks self.old.assigned x y)) (told e)) }
         ensures err { OnErr result (self.new ≡ self.old) }
     {
@@ -254,13 +250,11 @@ impl Diagram {
         if self.is_inside_beside(x, y) {
             let kept = self.rows.inside(x)?;
             self.elements.deassign(x, y)?;
-            self.rows.count(kept);
-            return Ok(());
+            return Ok(kept);
         }
         self.rows.prepare(Step::Deassign { x, y })?;
         self.elements.deassign(x, y)?;
-        self.rows.follow_deassign(x, y, &self.elements);
-        Ok(())
+        Ok(self.rows.follow_deassign(x, y, &self.elements))
     }
 
     /// Whether a live element could be taken out: `Occupied` exactly where something is assigned to it.
@@ -284,7 +278,6 @@ impl Diagram {
         ensures fits { OnOk result (first_of (remove_checks self.old.assigned id) ≡ None) }
         ensures elements { OnOk result (self.new.elements ≡ filter (λ e. not (is_numbered id e)) self.old.elements) }
         ensures assigned { OnOk result (self.new.assigned ≡ filter (λ pair. not (is_from id pair)) self.old.assigned) }
-        ensures written { OnOk result (self.new.written ≡ self.old.written) }
         ensures refused { IfErr result (λ e. IsCause (first_of (remove_checks self.old.assigned id)) (told e)) }
         ensures err { OnErr result (self.new ≡ self.old) }
     {

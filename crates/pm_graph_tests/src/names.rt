@@ -88,12 +88,14 @@ fn long_alone(rt: &(impl Abort + Alloc<A = Global>)) -> Result<Names, Fail> {
     Ok(names)
 }
 
+static FOUND: &[(&str, Option<u32>)] = &[("a", None), ("aa", Some(7)), ("b", None)];
+
 #[test]
 fn bytes_and_length_tell_names_apart(rt: HostRuntime) -> Result<(), Fail> {
     let names = long_alone(&rt)?;
-    for (text, want) in [("a", None), ("aa", Some(7)), ("b", None)] {
+    for (text, want) in FOUND {
         let name = Name::new(text.as_bytes()).expect(&rt, "a name");
-        assert_eq!(rt; number(&names, &name), want, "of {text}");
+        assert_eq!(rt; number(&names, &name), *want, "of {text}");
     }
     Ok(())
 }

@@ -35,14 +35,7 @@ use Rattle.pm_print.specs.Members.{item_text, items_front, keyed, leading, leadi
 use Rattle.pm_print.proofs.Hex.{hex_length, hex_quoted}
 use Rattle.pm_print.proofs.ItemTexts.{listed_text}
 use Rattle.pm_print.proofs.Members.{line_by}
-use Rattle.pm_print.proofs.Texts.{key_name, word_name, quoted_size, decimal_size}
-
-key_size : (k : Key) → length (keyed (key_text k)) ≤ key_most
-unfolding keyed
-key_size k =
-    let q = quoted_size (key_text k) (key_name k) in
-    let a = length-append (quoted (key_text k)) (58 ∷ []) in
-    omega (arith, q, a)
+use Rattle.pm_print.proofs.Texts.{key_name, key_size, word_name, quoted_size, decimal_size}
 
 name_size : (k : Key) (s : List ℕ) → IsTrue (is_name s) → length (trailing (key_text k) (texted s)) ≤ text_most
 unfolding trailing

@@ -1,7 +1,9 @@
 -- The values that lines are made of (whole numbers below 2^64, texts in UTF-8, lists, and objects with their keys in order):
 -- the compact text of one is read as that value.
-use Rattle.std.proofs.Common.{◌≡◌, ℕ, ◌≤◌, ◌<◌, ◌^◌, List, [], ◌&&◌, Bool, true, IsUtf8, Some, max, suc, option_map, option_and_then, refl, sym, ap, ap₂, ◌∙◌, append-nil}
+use Rattle.std.proofs.Common.{◌≡◌, ℕ, ◌≤◌, ◌<◌, ◌^◌, List, [], ◌∷◌, ◌&&◌, Bool, true, false, IsUtf8, Some, decimal, max, suc, option_map, option_and_then, refl, sym, ap, ap₂, ◌∙◌, append-nil}
 use Rattle.std.proofs.lemmas.Bool.{and_parts, and_from}
+use Rattle.std.proofs.lemmas.Fmt.{IsAscii-decimal}
+use Rattle.std.proofs.lemmas.Str.{IsUtf8-append, IsUtf8-from_ascii}
 use Rattle.std.specs.Ordering.{nat_cmp, is_gt, match_ordering}
 use Rattle.std.specs.Cmp.Lexicographic.{slice_cmp}
 use Rattle.std.specs.declared.cmp.Ordering.{Ordering}
@@ -12,9 +14,10 @@ use Rattle.json.specs.Tree as tree
 use Rattle.json.proofs.Printed.Decimals.{IsNumber-decimal}
 use Rattle.json.proofs.Printed.Tokens.{tokens-print}
 use Rattle.json.proofs.Printed.Trees.{ArePrintable-json_tokens, value-json_tokens}
+use Rattle.json.proofs.Printed.Utf8.{IsUtf8-are_ascii, IsUtf8-quoted, IsUtf8-boolean}
 use Rattle.serde_json.specs.Data.{Num, unsigned, negative, float, Data, null, boolean, number, string, array, object, Items, no_items, item, Members, no_members, member, put, depth, items_depth, members_depth}
 use Rattle.serde_json.specs.Read.{read, max_depth, of_json, of_items, of_members}
-use Rattle.serde_json.specs.Written.{outline, items_outline, members_outline, compact_text}
+use Rattle.serde_json.specs.Written.{outline, items_outline, members_outline, compact_text, comma_if, items_text, members_text}
 use Rattle.serde_json.proofs.Numbers.{number_of-decimal}
 use Rattle.serde_json.proofs.Texts.{print-outline}
 
@@ -166,3 +169,35 @@ read-compact d h shallow =
     (ap (json.value max_depth) (tokens-compact d h ∙ sym (append-nil _))
     ∙ value-json_tokens (outline d) max_depth [] (rw (depth-outline d) shallow))
     ∙ of_json-outline d h
+
+-- ---- the text is UTF-8
+
+byte_then : (x : ℕ) (s : List ℕ) → IsUtf8 (x ∷ []) → IsUtf8 s → IsUtf8 (x ∷ s)
+byte_then x s one rest = IsUtf8-append (x ∷ []) s one rest
+
+comma : (later : Bool) → IsUtf8 (comma_if later)
+comma true = IsUtf8-are_ascii (44 ∷ []) refl
+comma false = IsUtf8-are_ascii [] refl
+
+mutual
+  pub IsUtf8-compact : (d : Data) → IsFair d → IsUtf8 (compact_text d)
+  IsUtf8-compact null h = IsUtf8-are_ascii _ refl
+  IsUtf8-compact (boolean b) h = IsUtf8-boolean b
+  IsUtf8-compact (number (unsigned n)) h = IsUtf8-from_ascii (decimal n) (IsAscii-decimal n h)
+  IsUtf8-compact (number (negative z)) h = absurd h
+  IsUtf8-compact (number (float x)) h = absurd h
+  IsUtf8-compact (string s) h = IsUtf8-quoted s h
+  IsUtf8-compact (array ds) h = byte_then 91 _ (IsUtf8-are_ascii (91 ∷ []) refl) (IsUtf8-items false ds h)
+  IsUtf8-compact (object ms) h = byte_then 123 _ (IsUtf8-are_ascii (123 ∷ []) refl) (IsUtf8-members false ms h)
+
+  IsUtf8-items : (later : Bool) (ds : Items) → ItemsFair ds → IsUtf8 (items_text later ds)
+  IsUtf8-items later no_items h = IsUtf8-are_ascii (93 ∷ []) refl
+  IsUtf8-items later (item d ds) h = IsUtf8-append _ _ (comma later) (IsUtf8-append _ _ (IsUtf8-compact d h.0) (IsUtf8-items true ds h.1))
+
+  IsUtf8-members : (later : Bool) (ms : Members) → MembersFair ms → IsUtf8 (members_text later ms)
+  IsUtf8-members later no_members h = IsUtf8-are_ascii (125 ∷ []) refl
+  IsUtf8-members later (member k d ms) h =
+      IsUtf8-append _ _ (comma later)
+      (IsUtf8-append _ _ (IsUtf8-quoted k h.0)
+      (byte_then 58 _ (IsUtf8-are_ascii (58 ∷ []) refl)
+      (IsUtf8-append _ _ (IsUtf8-compact d h.1) (IsUtf8-members true ms h.3))))

@@ -17,6 +17,10 @@ abbrev pub or_else : Option Data → Option Data → Option Data
 or_else None o = o
 or_else (Some d) o = Some d
 
+pub or_none : (o : Option Data) → or_else o None ≡ o
+or_none None = refl
+or_none (Some d) = refl
+
 -- the value at the key, among members that may be absent
 abbrev pub find : List ℕ → List (List ℕ × Option Data) → Option Data
 find k [] = None
@@ -48,13 +52,20 @@ abbrev pub in_order : List (List ℕ × Option Data) → Bool
 in_order [] = true
 in_order (f ∷ fs) = (are_ascii f.0 && keys_above f.0 fs) && in_order fs
 
+-- the value is fair and no deeper than this, where it is there
+abbrev pub ValueIn : ℕ → Option Data → Type 0
+ValueIn n None = Unit {0}
+ValueIn n (Some d) = IsFair d × (depth d ≤ n)
+
+abbrev pub ValuesIn : ℕ → List (List ℕ × Option Data) → Type 0
+ValuesIn n [] = Unit {0}
+ValuesIn n (f ∷ fs) = ValueIn n f.1 × ValuesIn n fs
+
 abbrev pub ValueFair : Option Data → Type 0
-ValueFair None = Unit {0}
-ValueFair (Some d) = IsFair d × (depth d ≤ 100)
+ValueFair o = ValueIn 100 o
 
 abbrev pub ValuesFair : List (List ℕ × Option Data) → Type 0
-ValuesFair [] = Unit {0}
-ValuesFair (f ∷ fs) = ValueFair f.1 × ValuesFair fs
+ValuesFair fs = ValuesIn 100 fs
 
 above-present : (k : List ℕ) (fs : List (List ℕ × Option Data)) → keys_above k fs ≡ true → all_above k (present fs) ≡ true
 above-present k [] h = refl
@@ -63,15 +74,21 @@ above-present k ((l, Some d) ∷ fs) h =
     let p = and_parts (is_gt (slice_cmp nat_cmp l k)) (keys_above k fs) h in
     and_from (is_gt (slice_cmp nat_cmp l k)) (all_above k (present fs)) p.0 (above-present k fs p.1)
 
-pub MembersFair-present : (fs : List (List ℕ × Option Data)) → in_order fs ≡ true → ValuesFair fs → MembersFair (present fs)
-MembersFair-present [] h v = tt
-MembersFair-present ((l, None) ∷ fs) h v = MembersFair-present fs (and_parts (are_ascii l && keys_above l fs) (in_order fs) h).1 v.1
-MembersFair-present ((l, Some d) ∷ fs) h v =
+pub MembersFair-in : (n : ℕ) (fs : List (List ℕ × Option Data)) → in_order fs ≡ true → ValuesIn n fs → MembersFair (present fs)
+MembersFair-in n [] h v = tt
+MembersFair-in n ((l, None) ∷ fs) h v = MembersFair-in n fs (and_parts (are_ascii l && keys_above l fs) (in_order fs) h).1 v.1
+MembersFair-in n ((l, Some d) ∷ fs) h v =
     let p = and_parts (are_ascii l && keys_above l fs) (in_order fs) h in
     let q = and_parts (are_ascii l) (keys_above l fs) p.0 in
-    (IsUtf8-are_ascii l q.0, v.0.0, above-present l fs q.1, MembersFair-present fs p.1 v.1)
+    (IsUtf8-are_ascii l q.0, v.0.0, above-present l fs q.1, MembersFair-in n fs p.1 v.1)
+
+pub MembersFair-present : (fs : List (List ℕ × Option Data)) → in_order fs ≡ true → ValuesFair fs → MembersFair (present fs)
+MembersFair-present fs h v = MembersFair-in 100 fs h v
+
+pub shallow-in : (n : ℕ) (fs : List (List ℕ × Option Data)) → ValuesIn n fs → members_depth (present fs) ≤ n
+shallow-in n [] v = omega arith
+shallow-in n ((l, None) ∷ fs) v = shallow-in n fs v.1
+shallow-in n ((l, Some d) ∷ fs) v = let a = v.0.1 in let b = shallow-in n fs v.1 in omega (arith, a, b)
 
 pub shallow-present : (fs : List (List ℕ × Option Data)) → ValuesFair fs → members_depth (present fs) ≤ 100
-shallow-present [] v = omega arith
-shallow-present ((l, None) ∷ fs) v = shallow-present fs v.1
-shallow-present ((l, Some d) ∷ fs) v = let a = v.0.1 in let b = shallow-present fs v.1 in omega (arith, a, b)
+shallow-present fs v = shallow-in 100 fs v

@@ -1,5 +1,5 @@
 -- A list that is written item by item: what stands of it so far, and one item more.
-use Rattle.std.proofs.Common.{◌≡◌, ℕ, zero, suc, min, ◌+◌, ◌<◌, Bool, true, false, List, [], ◌∷◌, ◌++◌, length, take, get_or, map, nat_lt, Some, lt-ltb, refl, sym, ap, ◌∙◌, arith, append_assoc, append-nil}
+use Rattle.std.proofs.Common.{◌≡◌, ℕ, zero, suc, min, ◌+◌, ◌<◌, ◌≤◌, Bool, true, false, List, [], ◌∷◌, ◌++◌, length, length-append, take, get_or, map, nat_lt, Some, lt-ltb, refl, sym, ap, ◌∙◌, arith, append_assoc, append-nil}
 use Rattle.std.proofs.lemmas.Grind.{common_steps}
 use Rattle.std.specs.List.{zip}
 use Rattle.serde_json.specs.Data.{Data}
@@ -26,6 +26,10 @@ list_member key ds =
     ap (λ t. keyed key ++ 91 ∷ (t ++ 44 ∷ [])) (listed_text ds)
     ∙ ap (λ t. keyed key ++ 91 ∷ t) (append_assoc (items_front false ds) (93 ∷ []) (44 ∷ []))
 
+-- the list
+pub list_text : (ds : List Data) → compact_text (listed ds) ≡ 91 ∷ (items_front false ds ++ 93 ∷ [])
+list_text ds = ap (λ t. 91 ∷ t) (listed_text ds)
+
 -- one item more
 last-behind : (ds : List Data) (d : Data) → items_front true (ds ++ d ∷ []) ≡ items_front true ds ++ item_text true d
 last-behind [] d = append-nil (item_text true d)
@@ -45,6 +49,17 @@ pub items_more : {X : Type 0} (f : X → Data) (xs : List X) (i : ℕ) (x : X) �
 items_more f xs i x within is =
     let n : length (map f (take i xs)) ≡ i = grind (arith, common_steps) in
     ap (items_front false) (mapped f xs i x within) ∙ (last (map f (take i xs)) (f (get_or xs i x)) ∙ rw (n, sym is) refl)
+
+-- what stands of it so far is no longer than the whole
+pub front_within : {X : Type 0} (f : X → Data) (later : Bool) (i : ℕ) (xs : List X) →
+    length (items_front later (map f (take i xs))) ≤ length (items_front later (map f xs))
+front_within f later zero xs = omega arith
+front_within f later (suc i) [] = omega arith
+front_within f later (suc i) (x ∷ xs) =
+    let rest = front_within f true i xs in
+    let a = length-append (item_text later (f x)) (items_front true (map f (take i xs))) in
+    let b = length-append (item_text later (f x)) (items_front true (map f xs)) in
+    omega (arith, rest, a, b)
 
 -- two lists side by side, at a place that both have
 zip_at : (us cs : List ℕ) (i u c : ℕ) → i < length us → i < length cs →

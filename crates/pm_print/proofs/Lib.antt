@@ -1,9 +1,11 @@
 pub mod Appending
+pub mod Asking
 pub mod Bounds
 pub mod Fair
 pub mod Fields
 pub mod Hex
 pub mod ItemTexts
+pub mod Kept
 pub mod Members
 pub mod Replied
 pub mod Replying

@@ -5,7 +5,7 @@ use Rattle.std.proofs.lemmas.Grind.{common_steps}
 use Rattle.std.specs.List.{list_all}
 use Rattle.json.specs.Print.{quoted, escape, escape_byte}
 use Rattle.json.proofs.Printed.Strings.{escape_byte_plain}
-use Rattle.serde_json.specs.Data.{Data}
+use Rattle.serde_json.specs.Data.{Data, object}
 use Rattle.serde_json.specs.Written.{compact_text, members_text}
 use Rattle.pm_model.specs.Name.{is_name, is_name_byte, longest_name}
 use Rattle.pm_model.specs.Object.{present, line_of}
@@ -47,6 +47,10 @@ module _ (k : List ℕ) (d : Data) (rest : List (List ℕ × Option Data)) where
       ap (λ t. quoted l ++ 58 ∷ (compact_text e ++ t)) (later fs ∙ ap (λ t. 44 ∷ t) (before fs))
       ∙ join_before (quoted l) (compact_text e) (trailing_all fs) tail
 
+  -- the object, by a member that is there
+  pub object_by : (fs : List (List ℕ × Option Data)) → compact_text (object (present (fs ++ (k, Some d) ∷ rest))) ≡ 123 ∷ (trailing_all fs ++ (keyed k ++ (compact_text d ++ (leading_all rest ++ codes "}"))))
+  object_by fs = ap (λ t. 123 ∷ t) (before fs)
+
   -- the line, by a member that is there
   pub line_by : (fs : List (List ℕ × Option Data)) → line_of (fs ++ (k, Some d) ∷ rest) ≡ 123 ∷ (trailing_all fs ++ (keyed k ++ (compact_text d ++ (leading_all rest ++ codes "}\n"))))
   line_by fs = ap (λ t. (123 ∷ t) ++ 10 ∷ []) (before fs) ∙ join_line (trailing_all fs) (keyed k) (compact_text d) (leading_all rest)
@@ -62,6 +66,14 @@ escape-plain (x ∷ s) h = let p = and_parts _ _ h in rw (name_byte_plain x p.0)
 
 pub quoted-plain : (s : List ℕ) → list_all is_name_byte s ≡ true → quoted s ≡ 34 ∷ (s ++ 34 ∷ [])
 quoted-plain s h = rw (escape-plain s h) refl
+
+-- `$` needs none either
+dollar : escape_byte 36 ≡ 36 ∷ []
+unfolding escape_byte
+dollar = refl
+
+pub quoted-marked : (s : List ℕ) → list_all is_name_byte s ≡ true → quoted (36 ∷ s) ≡ 34 ∷ 36 ∷ (s ++ 34 ∷ [])
+quoted-marked s h = rw (dollar, escape-plain s h) refl
 
 pub plain-name : (s : List ℕ) → IsTrue (is_name s) → list_all is_name_byte s ≡ true
 plain-name s h = (and_parts (nat_lt 0 (length s) && nat_le (length s) longest_name) (list_all is_name_byte s) h).1

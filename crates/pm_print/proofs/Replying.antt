@@ -32,21 +32,18 @@ use Rattle.pm_model.specs.declared.replies.Reason.TheVariants.{Class, Prohibitio
 use Rattle.pm_model.specs.declared.replies.Shown as made
 use Rattle.pm_model.specs.declared.replies.Shown.TheVariants as shows
 use Rattle.pm_print.specs.Printable.{names_in, names_in_refusal, names_in_reason, names_of_changes, names_of_pairs, numbers_in, numbers_in_shown, rights_in, rights_of_changes, rights_of_pairs, ShowsNames, ShowsNumbers, ShowsRights, IsPrintable}
+use Rattle.pm_print.specs.Spelt.{beside, keys, spelt}
 use Rattle.pm_print.specs.Shown.{Shown, shown, shown_pairs, shown_counts}
-use Rattle.pm_print.proofs.Fair.{ItemsFair, read-compact}
+use Rattle.pm_print.proofs.Fair.{IsFair, ItemsFair, read-compact}
 use Rattle.pm_print.proofs.Hex.{hex_plain, hex_told}
-use Rattle.pm_print.proofs.Fields.{or_else, in_order, ValueFair, ValuesFair, MembersFair-present, shallow-present, finding, looks}
+use Rattle.pm_print.proofs.Fields.{in_order, or_none, ValueFair, ValuesFair, MembersFair-present, shallow-present, finding, looks}
 use Rattle.pm_print.proofs.Members.{plain-name}
 use Rattle.pm_print.proofs.Replied as replied
 use Rattle.pm_print.proofs.Texts.{key_name, word_name}
 
 -- ---- what the members say
 
-or_none : (o : Option Data) → or_else o None ≡ o
-or_none None = refl
-or_none (Some d) = refl
-
-number_told : (n : Option ℕ) → option_and_then whole_form (whole_if n) ≡ n
+pub number_told : (n : Option ℕ) → option_and_then whole_form (whole_if n) ≡ n
 number_told None = refl
 number_told (Some n) = refl
 
@@ -56,7 +53,7 @@ fired_told fired = elim (cases_Bool (fired == 0)) [
   | inr some ↦ rw some refl
 ]
 
-refusal_told : (why : Refusal) → replied.beside replied.refusal_words (word_text (refusal_word why)) ≡ Some (refusal_word why)
+refusal_told : (why : Refusal) → beside replied.refusal_words (word_text (refusal_word why)) ≡ Some (refusal_word why)
 unfolding word_text
 refusal_told refusal.UnknownProcess = refl
 refusal_told refusal.UnknownSession = refl
@@ -75,7 +72,7 @@ refusal_told refusal.Builtin = refl
 refusal_told refusal.EmptyRange = refl
 refusal_told (refusal.Full table) = refl
 
-spelt_key : (k : Key) → replied.spelt replied.keys (key_text k) ≡ Some k
+pub spelt_key : (k : Key) → spelt keys (key_text k) ≡ Some k
 unfolding key_text
 spelt_key key.Action = refl
 spelt_key key.After = refl
@@ -123,7 +120,7 @@ spelt_key key.Why = refl
 abbrev said_as : Option ℕ → ℕ → Shown → replied.Said
 said_as id v what = record { id = id; version = v; shown = what }
 
-abbrev members : Option ℕ → ℕ → (ℕ → List ℕ) → Reply → List (List ℕ × Option Data)
+abbrev pub members : Option ℕ → ℕ → (ℕ → List ℕ) → Reply → List (List ℕ × Option Data)
 members id v names reply = with_version v (front (record { id = id }) names reply) (back reply)
 
 abbrev Told : Option ℕ → ℕ → (ℕ → List ℕ) → Reply → Type 0
@@ -224,7 +221,7 @@ module _ (id : Option ℕ) (v : ℕ) (names : ℕ → List ℕ) where
 ascii_byte : (x : ℕ) → is_name_byte x ≡ true → nat_lt x 128 ≡ true
 ascii_byte x h = lt-ltb x 128 (grind arith)
 
-ascii_plain : (s : List ℕ) → list_all is_name_byte s ≡ true → are_ascii s ≡ true
+pub ascii_plain : (s : List ℕ) → list_all is_name_byte s ≡ true → are_ascii s ≡ true
 ascii_plain [] h = refl
 ascii_plain (x ∷ s) h =
     let p = and_parts (is_name_byte x) (list_all is_name_byte s) h in
@@ -408,7 +405,7 @@ module _ (id : Option ℕ) (v : ℕ) (names : ℕ → List ℕ) (i : IfSome id (
 
 -- ---- the whole line
 
-abbrev data_of : Option ℕ → ℕ → (ℕ → List ℕ) → Reply → Data
+abbrev pub data_of : Option ℕ → ℕ → (ℕ → List ℕ) → Reply → Data
 data_of id v names reply = object (present (members id v names reply))
 
 -- what a text that may have been read says
@@ -416,18 +413,21 @@ abbrev said_in : Option Data → Option replied.Said
 said_in o = option_and_then (λ d. replied.said (looking d)) o
 
 module _ (id : Option ℕ) (v : ℕ) (names : ℕ → List ℕ) (reply : Reply) (p : IsPrintable id v names reply) where
+  fair-values : ValuesFair (members id v names reply)
+  fair-values = fair id v names p.id_fits p.version_fits reply p.numbers_fit p.named
+
+  pub fair-line : IsFair (data_of id v names reply)
+  fair-line = MembersFair-present (members id v names reply) (ordered id v names reply) fair-values
+
   -- the line without its line feed is read as the members
-  read-line : read (compact_text (data_of id v names reply)) ≡ Some (data_of id v names reply)
-  read-line =
-      let values = fair id v names p.id_fits p.version_fits reply p.numbers_fit p.named in
-      let shallow = shallow-present (members id v names reply) values in
-      read-compact (data_of id v names reply) (MembersFair-present (members id v names reply) (ordered id v names reply) values) (omega (arith, shallow))
+  pub read-line : read (compact_text (data_of id v names reply)) ≡ Some (data_of id v names reply)
+  read-line = let shallow = shallow-present (members id v names reply) fair-values in read-compact (data_of id v names reply) fair-line (omega (arith, shallow))
 
   said-line : said_in (read (compact_text (data_of id v names reply))) ≡ Some (said_as id v (shown names reply))
   said-line = ap said_in read-line ∙ ap replied.said (looks (members id v names reply)) ∙ told id v names reply p.rights_fit p.named
 
 -- what stands before a line feed
-cut_feed : (xs ys : List ℕ) → xs ++ 10 ∷ [] ≡ ys ++ 10 ∷ [] → xs ≡ ys
+pub cut_feed : (xs ys : List ℕ) → xs ++ 10 ∷ [] ≡ ys ++ 10 ∷ [] → xs ≡ ys
 cut_feed xs ys e =
     let whole = ap length e in
     let a = length-append xs (10 ∷ []) in

@@ -1,9 +1,9 @@
 -- Keys and fixed texts have the form of names, and so few bytes.
-use Rattle.std.proofs.Common.{◌≤◌, ◌<◌, ◌^◌, ℕ, List, [], ◌∷◌, ◌&&◌, IsTrue, length, decimal, refl, ap, arith, length-append, leb-true}
+use Rattle.std.proofs.Common.{◌≡◌, ◌≤◌, ◌<◌, ◌^◌, ℕ, List, [], ◌∷◌, ◌&&◌, IsTrue, length, decimal, refl, ap, arith, length-append, leb-true}
 use Rattle.std.proofs.lemmas.Bool.{and_parts}
 use Rattle.std.proofs.lemmas.Fmt.{length-decimal-le}
 use Rattle.std.specs.List.{list_all}
-use Rattle.std.specs.Prelude.{nat_lt, nat_le}
+use Rattle.std.specs.Prelude.{codes, nat_lt, nat_le}
 use Rattle.json.specs.Print.{quoted}
 use Rattle.pm_model.specs.Name.{is_name, is_name_byte, longest_name}
 use Rattle.pm_model.specs.Words.{key_text, word_text}
@@ -11,8 +11,11 @@ use Rattle.pm_model.specs.declared.words.Key.{Key}
 use Rattle.pm_model.specs.declared.words.Key.TheVariants as key
 use Rattle.pm_model.specs.declared.words.Word.{Word}
 use Rattle.pm_model.specs.declared.words.Word.TheVariants as word
-use Rattle.pm_print.specs.Growth.{decimal_most, quoted_most}
-use Rattle.pm_print.proofs.Members.{quoted-plain, plain-name}
+use Rattle.pm_model.specs.declared.actions.Term.TheVariants.{EventUser, EventTarget, Fresh}
+use Rattle.pm_print.specs.Actions.{event_process_text, term_text}
+use Rattle.pm_print.specs.Growth.{decimal_most, key_most, quoted_most}
+use Rattle.pm_print.specs.Members.{keyed}
+use Rattle.pm_print.proofs.Members.{quoted-marked, quoted-plain, plain-name}
 
 pub key_name : (k : Key) → IsTrue (is_name (key_text k))
 unfolding key_text
@@ -128,6 +131,22 @@ word_name word.Rights = refl
 word_name word.All = refl
 word_name word.Any = refl
 
+pub event_user : quoted (term_text EventUser) ≡ codes "\"$user\""
+unfolding term_text
+event_user = quoted-marked (codes "user") refl
+
+pub event_target : quoted (term_text EventTarget) ≡ codes "\"$target\""
+unfolding term_text
+event_target = quoted-marked (codes "target") refl
+
+pub fresh : quoted (term_text Fresh) ≡ codes "\"$fresh\""
+unfolding term_text
+fresh = quoted-marked (codes "fresh") refl
+
+pub event_process : quoted event_process_text ≡ codes "\"$process\""
+unfolding event_process_text
+event_process = quoted-marked (codes "process") refl
+
 pub name_length : (s : List ℕ) → IsTrue (is_name s) → length s ≤ longest_name
 name_length s h = leb-true (length s) longest_name (and_parts (nat_lt 0 (length s)) (nat_le (length s) longest_name) (and_parts (nat_lt 0 (length s) && nat_le (length s) longest_name) (list_all is_name_byte s) h).0).1
 
@@ -137,6 +156,13 @@ quoted_size s h =
     let e = ap length (quoted-plain s (plain-name s h)) in
     let a = length-append s (34 ∷ []) in
     omega (arith, short, e, a)
+
+pub key_size : (k : Key) → length (keyed (key_text k)) ≤ key_most
+unfolding keyed
+key_size k =
+    let q = quoted_size (key_text k) (key_name k) in
+    let a = length-append (quoted (key_text k)) (58 ∷ []) in
+    omega (arith, q, a)
 
 pub decimal_size : (n : ℕ) → n < 2 ^ 64 → length (decimal n) ≤ decimal_most
 decimal_size n h = length-decimal-le decimal_most n (omega arith) (omega arith) h

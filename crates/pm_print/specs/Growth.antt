@@ -16,6 +16,10 @@ pub record Appended {E : Type 0} (old new : Vec ℕ Global) (text : List ℕ) (m
   pub grown : OnOk result (vec_len new ≤ vec_len old + most)
   pub fits : vec_len old + most ≤ vec_capacity old → IsOk result
 
+-- the same where a text has as many bytes as it has
+abbrev pub Adds : {E : Type 0} → Vec ℕ Global → Vec ℕ Global → List ℕ → Result ⊤ E → Type 0
+Adds old new text result = Appended old new text (length text) result
+
 -- how many bytes a number of 64 bits has in decimal digits
 abbrev pub decimal_most : ℕ
 decimal_most = 20

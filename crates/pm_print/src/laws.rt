@@ -1,10 +1,14 @@
-//! Laws of the lines of replies: how long one can be, and that it has one meaning.
+//! Laws of lines: how long the line of a reply can be, that it has one meaning, and that the line of a request asks for it.
 
-ghost use Rattle.std.specs.Prelude.{ℕ, List, Option, length, ◌≡◌, ◌≤◌};
+ghost use Rattle.std.specs.Prelude.{ℕ, List, Option, codes, length, ◌≡◌, ◌≤◌, ◌++◌};
+ghost use Rattle.pm_model.specs.Asked.{asked};
 ghost use Rattle.pm_model.specs.Text.{text};
 ghost use Rattle.pm_model.specs.declared.replies.Reply.{Reply};
+ghost use Rattle.pm_model.specs.declared.requests.Request.{Request};
+ghost use Rattle.pm_print.specs.Askable.{IsAskable, IsWholeIf, asking};
 ghost use Rattle.pm_print.specs.Growth.{reply_most};
 ghost use Rattle.pm_print.specs.Printable.{IsPrintable};
+ghost use Rattle.pm_print.specs.Requested.{request_text};
 ghost use Rattle.pm_print.specs.Shown.{shown};
 
 /// The line of a reply has at most 1,024 bytes with its line feed, and one with a list at most 90 more for each of its items,
@@ -21,4 +25,11 @@ pub fn line_has_one_meaning()
         → IsPrintable id version names reply → IsPrintable other_id other_version other_names other
         → text id version names reply ≡ text other_id other_version other_names other
         → (id ≡ other_id) × (version ≡ other_version) × (shown names reply ≡ shown other_names other) }
+{}
+
+/// The line of a request, without its line feed, asks for that request, with that id or none, where the request is one that a
+/// line can ask for: names are names, numbers fit, no right stands twice, lists and responses are within their limits.
+pub fn printed_is_asked()
+    ensures { (id : Option ℕ) (request : Request) (line : List ℕ) → IsWholeIf id → IsAskable request
+        → request_text id request ≡ line ++ codes "\n" → asked line ≡ asking id request }
 {}

@@ -271,6 +271,28 @@ fn put_end(out: &mut Vec<u8>) -> Result<(), Memory>
     put(out, b"}\n")
 }
 
+// The line up to its version.
+fn put_open<N: NameOf>(
+    out: &mut Vec<u8>,
+    head: &Head,
+    names: &N,
+    reply: &Reply,
+) -> Result<(), Memory>
+    requires { IsNameable (N.named names.now) reply.now }
+    ensures { Appended out.old out.new (codes "{" ++ trailing_all (front head.now (N.name_at names.now) reply.now)) (1 + front_most_of reply.now) result }
+{
+    put(out, b"{")?;
+    put_front(out, head, names, reply)
+}
+
+// What stands behind the version.
+fn put_close(out: &mut Vec<u8>, reply: &Reply) -> Result<(), Memory>
+    ensures { Appended out.old out.new (leading_all (back reply.now) ++ codes "}\n") (text_most + 2) result }
+{
+    put_back(out, reply)?;
+    put_end(out)
+}
+
 fn put_line_parts<N: NameOf>(
     out: &mut Vec<u8>,
     head: &Head,
@@ -281,11 +303,9 @@ fn put_line_parts<N: NameOf>(
     requires { IsNameable (N.named names.now) reply.now }
     ensures { Appended out.old out.new (codes "{" ++ (trailing_all (front head.now (N.name_at names.now) reply.now) ++ (keyed (key_text Key.V) ++ (decimal version ++ (leading_all (back reply.now) ++ codes "}\n"))))) (reply_most reply.now) result }
 {
-    put(out, b"{")?;
-    put_front(out, head, names, reply)?;
+    put_open(out, head, names, reply)?;
     put_version(out, version)?;
-    put_back(out, reply)?;
-    put_end(out)
+    put_close(out, reply)
 }
 
 fn put_line<N: NameOf>(
@@ -321,8 +341,8 @@ fn put_bad_line(
     put_bad_parts(out, &Head { id }, version, bad)
 }
 
-// Takes back what a write that failed has left behind the first bytes.
-fn whole_or_none(
+/// Takes back what a write that failed has left behind the first bytes.
+pub(crate) fn whole_or_none(
     out: &mut Vec<u8>,
     before: usize,
     written: Result<(), Memory>,

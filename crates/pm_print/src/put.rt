@@ -5,7 +5,7 @@ ghost use Rattle.pm_model.specs.Name.{is_name};
 ghost use Rattle.pm_model.specs.Object.{whole, whole_if, texted};
 ghost use Rattle.pm_model.specs.Text.{said};
 ghost use Rattle.pm_model.specs.Words.{key_text};
-ghost use Rattle.pm_print.specs.Growth.{Appended, decimal_most, key_most, number_most, quoted_most, text_most};
+ghost use Rattle.pm_print.specs.Growth.{Adds, Appended, decimal_most, key_most, number_most, quoted_most, text_most};
 ghost use Rattle.pm_print.specs.Members.{keyed, leading, trailing};
 
 use itoa::Buffer;
@@ -20,16 +20,24 @@ pub(crate) fn put(out: &mut Vec<u8>, text: &[u8]) -> Result<(), Memory>
 }
 
 /// Appends the number.
-#[tactic(auto, using(crate::proofs::Texts::decimal_size))]
-pub(crate) fn put_decimal(out: &mut Vec<u8>, n: u64) -> Result<(), Memory>
-    ensures { Appended out.old out.new (decimal n) decimal_most result }
+pub(crate) fn add_decimal(out: &mut Vec<u8>, n: u64) -> Result<(), Memory>
+    ensures { Adds out.old out.new (decimal n) result }
 {
     let mut buffer = Buffer::new();
     put(out, buffer.format(n).as_bytes())
 }
 
-fn put_between_quotes(out: &mut Vec<u8>, text: &[u8]) -> Result<(), Memory>
-    ensures { Appended out.old out.new (34 ∷ (text.now ++ 34 ∷ [])) (length text.now + 2) result }
+/// Appends the number, which has 20 digits at most.
+#[tactic(auto, using(crate::proofs::Texts::decimal_size))]
+pub(crate) fn put_decimal(out: &mut Vec<u8>, n: u64) -> Result<(), Memory>
+    ensures { Appended out.old out.new (decimal n) decimal_most result }
+{
+    add_decimal(out, n)
+}
+
+/// Appends the text between quotes, as it is.
+pub(crate) fn add_between_quotes(out: &mut Vec<u8>, text: &[u8]) -> Result<(), Memory>
+    ensures { Adds out.old out.new (34 ∷ (text.now ++ 34 ∷ [])) result }
 {
     put(out, b"\"")?;
     put(out, text)?;
@@ -37,20 +45,37 @@ fn put_between_quotes(out: &mut Vec<u8>, text: &[u8]) -> Result<(), Memory>
 }
 
 /// Appends the text in quotes, which has the form of a name and needs no escape.
+pub(crate) fn add_quoted(out: &mut Vec<u8>, text: &[u8]) -> Result<(), Memory>
+    requires { IsTrue (is_name text.now) }
+    ensures { Adds out.old out.new (quoted text.now) result }
+{
+    add_between_quotes(out, text)
+}
+
+/// Appends it, which is as long as a name at most.
+#[tactic(auto, using(crate::proofs::Texts::quoted_size))]
 pub(crate) fn put_quoted(out: &mut Vec<u8>, text: &[u8]) -> Result<(), Memory>
     requires { IsTrue (is_name text.now) }
     ensures { Appended out.old out.new (quoted text.now) quoted_most result }
 {
-    put_between_quotes(out, text)
+    add_quoted(out, text)
 }
 
 /// Appends the key and its colon.
 #[tactic(auto, using(crate::proofs::Texts::key_name), unfolding(crate::specs::Members::keyed))]
+pub(crate) fn add_key(out: &mut Vec<u8>, key: Key) -> Result<(), Memory>
+    ensures { Adds out.old out.new (keyed (key_text key)) result }
+{
+    add_quoted(out, key.text().as_bytes())?;
+    put(out, b":")
+}
+
+/// Appends them, the key being as long as a name at most.
+#[tactic(auto, using(crate::proofs::Texts::key_size))]
 pub(crate) fn put_key(out: &mut Vec<u8>, key: Key) -> Result<(), Memory>
     ensures { Appended out.old out.new (keyed (key_text key)) key_most result }
 {
-    put_quoted(out, key.text().as_bytes())?;
-    put(out, b":")
+    add_key(out, key)
 }
 
 /// Appends a member that is a number, and a comma.

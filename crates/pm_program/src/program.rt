@@ -3,13 +3,15 @@ ghost use Rattle.std.specs.Prelude.{◌≡◌, ◌≢◌, ◌↔◌, ◌^◌, �
 ghost use Rattle.std.specs.IoError.{error_kind};
 ghost use Rattle.pm_model.specs.Causes.{Rose, raised};
 ghost use Rattle.pm_run.specs.Ran.{Ran, IsComplete};
+ghost use Rattle.pm_program.specs.Generating.{Summed};
 ghost use Rattle.pm_program.specs.Said.{Said};
 ghost use Rattle.pm_run.specs.Statuses.{status_text};
-ghost use Rattle.pm_words.specs.Words.{AskRun, AskServe, AskOther, usage_line};
+ghost use Rattle.pm_words.specs.Words.{AskRun, AskGenerate, AskServe, AskOther, usage_line};
 
-use pm_machine::Answerer;
+use crate::generating::run_generated;
 use pm_model::{Memory, Sink, Source};
 use pm_run::{Status, run_lines, write_all};
+use pm_tally::Tally;
 use pm_words::{Asked, read_words};
 use std::alloc::Global;
 use std::env::Args;
@@ -27,9 +29,10 @@ pub fn say<E: Sink>(err: &mut E, status: Status)
 }
 
 /// The program: with the one word `run` behind its name it answers the lines of the source, up to 2^40 bytes of it. With
+/// `generate` and a size it runs the generated policy of that size, and writes the summary of the run, and nothing else. With
 /// `serve`, a port and a number of workers it tells that a server is asked for, and does nothing. To read its words takes
 /// memory; where there is none for that, it does nothing either.
-pub fn top<M: Answerer + Drop, I: Source, O: Sink, E: Sink, R: Threads + Sync>(
+pub fn top<M: Tally + Drop, I: Source, O: Sink, E: Sink, R: Threads + Sync>(
     rt: &R,
     alloc: Global,
     args: io::Result<Args>,
@@ -42,22 +45,25 @@ pub fn top<M: Answerer + Drop, I: Source, O: Sink, E: Sink, R: Threads + Sync>(
     ensures serve { (port workers : ℕ) → result ≢ Status.Memory
         → ((result ≡ Status.Serve port workers) ↔ AskServe args port workers) }
     ensures listening { result ≢ Status.ListenFault }
+    ensures serving { result ≢ Status.ServeFault }
     ensures memory { IfErr args (λ error. (result ≡ Status.Memory) ↔ (error_kind error ≡ ErrorKind.OutOfMemory)) }
     ensures unread { ¬ AskRun args → source.new ≡ source.old }
-    ensures unwritten { ¬ AskRun args → out.new ≡ out.old }
-    ensures ran { Ran (2 ^ 40) (I.left source.old) (I.left source.new) (O.taken out.old) (O.taken out.new) result }
+    ensures unwritten { ¬ AskRun args → ((size : ℕ) → ¬ AskGenerate args size) → out.new ≡ out.old }
+    ensures summed { (size : ℕ) → AskGenerate args size → Summed size (O.taken out.old) (O.taken out.new) result }
+    ensures ran { ((size : ℕ) → ¬ AskGenerate args size) → Ran (2 ^ 40) (I.left source.old) (I.left source.new) (O.taken out.old) (O.taken out.new) result }
     ensures complete { AskRun args → ¬ Rose (I.faults source.old) (I.faults source.new)
         → ¬ Rose (O.faults out.old) (O.faults out.new) → IsComplete (2 ^ 40) (I.left source.old) result }
     ensures read { result ≡ Status.ReadFault → Rose (I.faults source.old) (I.faults source.new) }
     ensures read_kept { result ≢ Status.ReadFault → I.faults source.new ≡ I.faults source.old }
     ensures write { result ≡ Status.WriteFault → Rose (O.faults out.old) (O.faults out.new) }
     ensures write_kept { result ≢ Status.WriteFault → O.faults out.new ≡ O.faults out.old }
-    ensures end { result ≡ Status.Done → I.ends source.new ≡ raised (I.ends source.old) }
+    ensures end { AskRun args → result ≡ Status.Done → I.ends source.new ≡ raised (I.ends source.old) }
     ensures end_kept { result ≢ Status.Done → I.ends source.new ≡ I.ends source.old }
     ensures said { Said (E.taken err.old) (E.taken err.new) (E.faults err.old) (E.faults err.new) (status_text result) }
 {
     let status = match read_words(alloc, args) {
         Ok(Some(Asked::Run)) => run_lines::<M, I, O, R>(rt, alloc, LIMIT, source, out),
+        Ok(Some(Asked::Generate { size })) => run_generated::<M, O, R>(rt, alloc, size, out),
         Ok(Some(Asked::Serve { port, workers })) => Status::Serve { port, workers },
         Ok(None) => Status::Usage,
         Err(Memory) => Status::Memory,

@@ -209,15 +209,15 @@ fn two_replies_are_written_together(rt: HostRuntime) -> Result<(), Fail> {
 }
 
 // An empty line is bad, which a reply of 24 bytes says. 4,096 of them are one piece, whose replies
-// are more than 65,536 bytes: so 2,689 are written first, since for one more there is no room of
-// 1,024 bytes.
+// are more than 16,384 bytes: so 641 are written first, since for one more there is no room of 1,024
+// bytes; six times so many, and the 250 that are left.
 #[test]
 fn replies_to_a_piece_are_written_where_there_is_room(rt: HostRuntime) -> Result<(), Fail> {
     let feeds = [b'\n'; 4096].as_slice();
     let done = written_in(&rt, feeds, 9, 9)?;
-    assert_eq!(rt; done, (Status::Done, 2, 4096 * 24));
+    assert_eq!(rt; done, (Status::Done, 7, 4096 * 24));
     let failed = written_in(&rt, feeds, 9, 2)?;
-    assert_eq!(rt; failed, (Status::WriteFault, 2, 2689 * 24));
+    assert_eq!(rt; failed, (Status::WriteFault, 2, 641 * 24));
     Ok(())
 }
 
@@ -248,7 +248,7 @@ fn a_run_stops_at_its_limit(rt: HostRuntime) -> Result<(), Fail> {
     check_limit(&rt, 103, Status::Done, &replies)
 }
 
-const USAGE: &str = "usage: ngac run | ngac serve PORT WORKERS\n";
+const USAGE: &str = "usage: ngac run | ngac generate N | ngac serve PORT WORKERS\n";
 
 fn calm(alloc: Global, room: usize) -> Result<Streams<CalmSource>, Memory> {
     Ok(Streams {
@@ -275,6 +275,9 @@ static OUTSIDE_THE_GRAMMAR: &[&[&str]] = &[
     &["run", "x"],
     &["walk"],
     &["run "],
+    &["generate"],
+    &["generate", "201"],
+    &["generate", "03"],
     &["serve", "1"],
     &["serve", "0", "33"],
     &["serve", "0", "0"],
@@ -318,6 +321,41 @@ fn a_server_is_asked_for(rt: HostRuntime) -> Result<(), Fail> {
     check_serve(&rt, &["serve", "8080", "2"], 8080, 2)?;
     check_serve(&rt, &["serve", "0", "1"], 0, 1)?;
     check_serve(&rt, &["serve", "65535", "32"], 65535, 32)
+}
+
+// The summaries of two generated policies, added up by hand.
+static SUMMARIES: &[(&str, &str)] = &[
+    (
+        "1",
+        "requests 11\nentries 9\ngranted 2\ndenied 0\nrefused 0\nrows 9\nshared 53\njudged 0\n",
+    ),
+    (
+        "3",
+        "requests 44\nentries 25\ngranted 5\ndenied 13\nrefused 1\nrows 27\nshared 295\njudged 20\n",
+    ),
+];
+
+#[test]
+fn a_generated_policy_is_summed_up(rt: HostRuntime) -> Result<(), Fail> {
+    for (size, text) in SUMMARIES {
+        let mut streams = calm(rt.alloc(), 64)?;
+        let args = args(rt.alloc(), &["generate", size])?;
+        assert!(rt; called(&rt, &mut streams, Ok(args)) == Status::Done);
+        assert!(rt; streams.out.taken() == text.as_bytes());
+        assert!(rt; streams.err.taken().is_empty());
+    }
+    Ok(())
+}
+
+#[test]
+fn a_summary_that_does_not_fit_is_told(rt: HostRuntime) -> Result<(), Fail> {
+    let little_room = Outside { room: 8, ..CALM };
+    let mut streams = streams_of(rt.alloc(), &little_room, FILES)?;
+    let args = args(rt.alloc(), &["generate", "1"])?;
+    assert!(rt; called(&rt, &mut streams, Ok(args)) == Status::WriteFault);
+    assert_eq!(rt; streams.out.taken(), b"requests".as_slice());
+    assert!(rt; streams.err.taken() == b"ngac: write failed\n".as_slice());
+    Ok(())
 }
 
 // Where the words can't be had the run ends so.
@@ -377,6 +415,7 @@ static STATUSES: &[(Status, u8, &str)] = &[
     (Status::Memory, 5, "ngac: out of memory\n"),
     (Status::TooMuch, 6, "ngac: too much input\n"),
     (Status::ListenFault, 7, "ngac: listen failed\n"),
+    (Status::ServeFault, 11, "ngac: serving failed\n"),
 ];
 
 #[test]

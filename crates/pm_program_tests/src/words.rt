@@ -20,6 +20,25 @@ RUN
 ru
 runs
 walk
+generate
+generate,
+generate,0
+generate,03
+generate,201
+generate,65537
+generate,3,4
+generate,-1
+generate,+1
+generate,1.0
+generate,x
+generate,3,
+generate, 3
+generate,--,3
+generators,3
+Generate,3
+generate=3
+generate,N
+help,generate
 serve
 serve,80
 serve,,1
@@ -96,6 +115,17 @@ fn asked_by(alloc: Global, line: &str) -> Result<Option<Asked>, Memory> {
 fn words_in_the_grammar(rt: HostRuntime) -> Result<(), Fail> {
     let alloc = rt.alloc();
     assert_eq!(rt; asked_by(alloc, "run")?, Some(Asked::Run));
+    for (line, size) in [
+        ("generate,1", 1),
+        ("generate,30", 30),
+        ("generate,200", 200),
+    ] {
+        assert_eq!(rt;
+            asked_by(alloc, line)?,
+            Some(Asked::Generate { size }),
+            "{line}"
+        );
+    }
     let table = [
         ("serve,0,1", 0, 1),
         ("serve,8080,2", 8080, 2),

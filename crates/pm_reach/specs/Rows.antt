@@ -1,18 +1,11 @@
 -- Rows of bits by number. The row of x has what x is contained in.
-use Rattle.std.specs.Prelude.{ℕ, Bool, false, ◌+◌, ◌/◌, ◌%◌, min, List, [], Option, Some, None, is_some, slice_get, unwrap_or, if◌then◌else◌}
+use Rattle.std.specs.Prelude.{ℕ, Bool, false, ◌+◌, ◌/◌, ◌%◌, List, [], Option, Some, None, is_some, slice_get, unwrap_or, if◌then◌else◌}
 use Rattle.std.proofs.Common.{zero, suc}
 use Rattle.pm_model.specs.Containment.{Relation}
 use Rattle.pm_reach.specs.Words.{in_row}
 use Rattle.pm_reach.specs.declared.step.Step.{Step}
 
--- the rows, in pages of 64 numbers, how many were written since the opening, and the step that is ready
--- to be followed
-pub record Reached : Type 0 where
-  pub rows : List (List (Option (List ℕ)))
-  pub written : ℕ
-  pub ready : Option Step
-
--- the rows, and the step that is ready
+-- the rows, in pages of 64 numbers, and the step that is ready to be followed
 pub record Readied : Type 0 where
   pub rows : List (List (Option (List ℕ)))
   pub ready : Option Step
@@ -41,7 +34,7 @@ abbrev pub below : List (List (Option (List ℕ))) → ℕ → ℕ → Bool
 below rows x y = row_has (place_at rows x) y
 
 -- containment as the rows tell it
-abbrev pub relation_of : Reached → Relation
+abbrev pub relation_of : Readied → Relation
 relation_of r = record { live = has r.rows; below = below r.rows }
 
 -- of the numbers below a bound, how many pass a test
@@ -56,7 +49,3 @@ most = 16384
 -- how many elements are contained in x
 abbrev pub inside : List (List (Option (List ℕ))) → ℕ → ℕ
 inside rows x = count_of (λ z. below rows z x) most
-
--- the count after some more rows were written
-abbrev pub counted : ℕ → ℕ → ℕ
-counted written more = min (written + more) 18446744073709551615

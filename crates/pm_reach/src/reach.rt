@@ -4,7 +4,7 @@
 ghost use Rattle.std.specs.Prelude.{◌≡◌, ℕ, ◌<◌, ◌∷◌, true, false, Some, None, [], is_some, nat_lt, ◌≤◌, if◌then◌else◌, IsTrue, IfOk, OnOk, OnErr, ◌+◌, ◌*◌, ◌/◌, ◌==◌};
 ghost use Rattle.std.specs.Int.{bit_at};
 ghost use Rattle.pm_model.specs.State.{element_at, opening_elements, opening_assigned};
-ghost use Rattle.pm_reach.specs.Rows.{Reached, has, below, inside, most, counted};
+ghost use Rattle.pm_reach.specs.Rows.{has, below, inside, most};
 ghost use Rattle.pm_reach.specs.Order.{IsOrder};
 ghost use Rattle.pm_reach.specs.Changes.{TellContainment, CanFollow, Adds, Makes, Assigns, Deassigns, Removes};
 ghost use Rattle.pm_reach.specs.Sharing.{IsUnready, is_owned};
@@ -28,26 +28,22 @@ use std::sync::Arc;
 /// more than the rows. They are at most 256 rows, which take 512 KiB.
 pub struct ReachRows {
     held: Held<Rows>,
-    written: u64,
 }
 
 impl Drop for ReachRows {
     fn drop(self) {
-        let ReachRows {
-            held: _,
-            written: _,
-        } = self;
+        let ReachRows { held: _ } = self;
     }
 }
 
 impl Model for ReachRows {
-    ghost use Rattle.pm_reach.specs.Rows.{Reached};
+    ghost use Rattle.pm_reach.specs.Rows.{Readied};
     ghost use Rattle.pm_reach.specs.Sharing.{IsUnready};
     ghost use Rattle.pm_reach.specs.Table.{value_of};
 
-    ghost Value = { Reached };
+    ghost Value = { Readied };
 
-    ghost view = { λ r. record { rows = (value_of r.held).rows; written = r.written; ready = (value_of r.held).ready } };
+    ghost view = { λ r. record { rows = (value_of r.held).rows; ready = (value_of r.held).ready } };
 
     ghost invariant = { λ r. IsUnready r.held };
 }
@@ -89,11 +85,9 @@ impl ReachRows {
     pub fn opening(alloc: Global) -> Result<ReachRows, Memory>
         ensures live { IfOk result (λ r. (x : ℕ) → has r.rows x ≡ is_some (element_at opening_elements x)) }
         ensures rows { IfOk result (λ r. TellContainment opening_assigned r.rows) }
-        ensures written { IfOk result (λ r. r.written ≡ 0) }
     {
         Ok(ReachRows {
             held: Held::Own(Rows::opening(alloc)?),
-            written: 0,
         })
     }
 
@@ -102,11 +96,9 @@ impl ReachRows {
         requires { size ≤ most }
         ensures live { IfOk result (λ r. (x : ℕ) → has r.rows x ≡ nat_lt x size) }
         ensures rows { IfOk result (λ r. TellContainment [] r.rows) }
-        ensures written { IfOk result (λ r. r.written ≡ size) }
     {
         Ok(ReachRows {
             held: Held::Own(Rows::unassigned(alloc, size)?),
-            written: u64::from(size),
         })
     }
 
@@ -147,7 +139,6 @@ impl ReachRows {
     pub fn prepare(&mut self, step: Step) -> Result<(), Memory>
         requires possible { CanFollow self.old.rows step }
         ensures rows { self.new.rows ≡ self.old.rows }
-        ensures written { self.new.written ≡ self.old.written }
         ensures ready { OnOk result (self.new.ready ≡ Some step) }
         ensures err { OnErr result (self.new.ready ≡ None) }
     {
@@ -160,39 +151,35 @@ impl ReachRows {
     pub fn follow_make(&mut self, x: ElementId, into: Option<ElementId>)
         requires { self.old.ready ≡ Some (Step.Make x into) }
         ensures rows { Makes x into self.old.rows self.new.rows }
-        ensures written { self.new.written ≡ counted self.old.written (if is_some into then 2 else 1) }
         ensures ready { self.new.ready ≡ None }
     {
-        let written = if into.is_some() { 2 } else { 1 };
         self.held.own_mut().follow_make(x, into);
-        self.count(written);
     }
 
-    /// Follows that x was assigned to y.
+    /// Follows that x was assigned to y. Answers how many rows were written: those of all that is contained in x.
     #[tactic(auto, using(crate::proofs::Sharing::ready_own))]
-    pub fn follow_assign(&mut self, x: ElementId, y: ElementId)
+    pub fn follow_assign(&mut self, x: ElementId, y: ElementId) -> u64
         requires { self.old.ready ≡ Some (Step.Assign x y) }
         ensures rows { Assigns x y self.old.rows self.new.rows }
-        ensures written { self.new.written ≡ counted self.old.written (inside self.old.rows x) }
+        ensures count { result ≡ inside self.old.rows x }
         ensures ready { self.new.ready ≡ None }
     {
-        let written = self.held.own_mut().follow_assign(x, y);
-        self.count(written);
+        self.held.own_mut().follow_assign(x, y)
     }
 
-    /// Follows that x isn't assigned to y any more. The parents are those after this.
+    /// Follows that x isn't assigned to y any more. The parents are those after this. Answers how many rows were written, as
+    /// `follow_assign` does.
     #[tactic(auto, using(crate::proofs::Sharing::ready_own))]
-    pub fn follow_deassign<P: Parents>(&mut self, x: ElementId, y: ElementId, parents: &P)
+    pub fn follow_deassign<P: Parents>(&mut self, x: ElementId, y: ElementId, parents: &P) -> u64
         requires ready { self.old.ready ≡ Some (Step.Deassign x y) }
         requires live { (z : ℕ) → has self.old.rows z ≡ true → IsTrue (P.live parents.now z) }
         requires rows { (z : ℕ) → IsTrue (P.live parents.now z) → has self.old.rows z ≡ true }
         requires was { TellContainment ((x, y) ∷ P.assigned parents.now) self.old.rows }
         ensures rows { Deassigns x (P.assigned parents.now) self.old.rows self.new.rows }
-        ensures written { self.new.written ≡ counted self.old.written (inside self.old.rows x) }
+        ensures count { result ≡ inside self.old.rows x }
         ensures ready { self.new.ready ≡ None }
     {
-        let written = self.held.own_mut().follow_deassign(x, y, parents);
-        self.count(written);
+        self.held.own_mut().follow_deassign(x, y, parents)
     }
 
     /// Follows that x was deleted.
@@ -200,7 +187,6 @@ impl ReachRows {
     pub fn follow_remove(&mut self, x: ElementId)
         requires { self.old.ready ≡ Some (Step.Remove x) }
         ensures rows { Removes x self.old.rows self.new.rows }
-        ensures written { self.new.written ≡ self.old.written }
         ensures ready { self.new.ready ≡ None }
     {
         self.held.own_mut().follow_remove(x);
@@ -213,63 +199,47 @@ impl ReachRows {
         read(&self.held).inside(x)
     }
 
-    /// Counts so many rows as written: those of all that is contained in an element of which an assignment comes or goes that
-    /// leaves containment as it is, and so each row.
-    pub fn count(&mut self, more: u64)
-        ensures rows { self.new.rows ≡ self.old.rows }
-        ensures written { self.new.written ≡ counted self.old.written more }
-        ensures ready { self.new.ready ≡ self.old.ready }
-    {
-        self.written = self.written.saturating_add(more);
-    }
-
     /// Prepares and follows that x is made.
     pub fn on_add(&mut self, x: ElementId) -> Result<(), Memory>
         requires none { has self.old.rows x ≡ false }
         requires few { x < most }
         ensures rows { OnOk result (Adds x self.old.rows self.new.rows) }
-        ensures written { OnOk result (self.new.written ≡ counted self.old.written 1) }
-        ensures err { OnErr result ((self.new.rows ≡ self.old.rows) × (self.new.written ≡ self.old.written)) }
+        ensures err { OnErr result (self.new.rows ≡ self.old.rows) }
     {
         own(&mut self.held)?;
-        self.held.own_mut().on_add(x)?;
-        self.count(1);
-        Ok(())
+        self.held.own_mut().on_add(x)
     }
 
-    /// Prepares and follows that x is assigned to y.
-    pub fn on_assign(&mut self, x: ElementId, y: ElementId) -> Result<(), Memory>
+    /// Prepares and follows that x is assigned to y. Answers how many rows were written, as `follow_assign` does.
+    pub fn on_assign(&mut self, x: ElementId, y: ElementId) -> Result<u64, Memory>
         requires x { has self.old.rows x ≡ true }
         requires y { has self.old.rows y ≡ true }
         requires apart { below self.old.rows y x ≡ false }
         ensures rows { OnOk result (Assigns x y self.old.rows self.new.rows) }
-        ensures written { OnOk result (self.new.written ≡ counted self.old.written (inside self.old.rows x)) }
-        ensures err { OnErr result ((self.new.rows ≡ self.old.rows) × (self.new.written ≡ self.old.written)) }
+        ensures count { IfOk result (λ n. n ≡ inside self.old.rows x) }
+        ensures err { OnErr result (self.new.rows ≡ self.old.rows) }
     {
         own(&mut self.held)?;
-        let written = self.held.own_mut().on_assign(x, y)?;
-        self.count(written);
-        Ok(())
+        self.held.own_mut().on_assign(x, y)
     }
 
-    /// Prepares and follows that x isn't assigned to y any more. The parents are those after this.
+    /// Prepares and follows that x isn't assigned to y any more. The parents are those after this. Answers how many rows were
+    /// written, as `follow_assign` does.
     pub fn on_deassign<P: Parents>(
         &mut self,
         x: ElementId,
         y: ElementId,
         parents: &P,
-    ) -> Result<(), Memory>
+    ) -> Result<u64, Memory>
         requires live { (z : ℕ) → has self.old.rows z ≡ true → IsTrue (P.live parents.now z) }
         requires rows { (z : ℕ) → IsTrue (P.live parents.now z) → has self.old.rows z ≡ true }
         requires was { TellContainment ((x, y) ∷ P.assigned parents.now) self.old.rows }
         ensures rows { OnOk result (Deassigns x (P.assigned parents.now) self.old.rows self.new.rows) }
-        ensures written { OnOk result (self.new.written ≡ counted self.old.written (inside self.old.rows x)) }
-        ensures err { OnErr result ((self.new.rows ≡ self.old.rows) × (self.new.written ≡ self.old.written)) }
+        ensures count { IfOk result (λ n. n ≡ inside self.old.rows x) }
+        ensures err { OnErr result (self.new.rows ≡ self.old.rows) }
     {
         own(&mut self.held)?;
-        let written = self.held.own_mut().on_deassign(x, y, parents)?;
-        self.count(written);
-        Ok(())
+        self.held.own_mut().on_deassign(x, y, parents)
     }
 
     /// Prepares and follows that x is deleted.
@@ -277,8 +247,7 @@ impl ReachRows {
         requires x { has self.old.rows x ≡ true }
         requires empty { (p : ℕ) → below self.old.rows p x ≡ true → p ≡ x }
         ensures rows { OnOk result (Removes x self.old.rows self.new.rows) }
-        ensures written { OnOk result (self.new.written ≡ self.old.written) }
-        ensures err { OnErr result ((self.new.rows ≡ self.old.rows) × (self.new.written ≡ self.old.written)) }
+        ensures err { OnErr result (self.new.rows ≡ self.old.rows) }
     {
         own(&mut self.held)?;
         self.held.own_mut().on_remove(x)
@@ -291,40 +260,25 @@ impl ReachRows {
         read(&self.held).live(x)
     }
 
-    /// How many rows were written since the opening, up to 2^64 - 1: those that making elements, assigning
-    /// and taking assignments away write, one after another. So an element that is made in a container
-    /// counts two, though its row is written once.
-    pub fn written(&self) -> u64
-        ensures { result ≡ self.now.written }
-    {
-        self.written
-    }
-
     /// Lets copies made from now on share all that is there: such a copy is a pointer. It takes memory for
     /// what wasn't shared before, and a pointer for each page where a row was written since. What is
     /// shared is copied where it is to be written, so nothing is ready any more.
     pub fn share(&mut self) -> Result<(), Memory>
         ensures rows { self.new.rows ≡ self.old.rows }
-        ensures written { self.new.written ≡ self.old.written }
         ensures ready { self.new.ready ≡ None }
     {
         share(&mut self.held)
     }
 
-    /// The same rows once more, with the same number of those written, and nothing ready. Neither sees
-    /// what the other writes from then on.
+    /// The same rows once more, and nothing ready. Neither sees what the other writes from then on.
     pub fn copy(&self) -> Result<ReachRows, Memory>
         ensures rows { IfOk result (λ same. same.rows ≡ self.now.rows) }
-        ensures written { IfOk result (λ same. same.written ≡ self.now.written) }
         ensures ready { IfOk result (λ same. same.ready ≡ None) }
     {
         let held = match &self.held {
             Held::Own(rows) => Held::Own(rows.copy()?),
             Held::Shared(shared) => Held::Shared(Arc::try_clone(shared)?),
         };
-        Ok(ReachRows {
-            held,
-            written: self.written,
-        })
+        Ok(ReachRows { held })
     }
 }

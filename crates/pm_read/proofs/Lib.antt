@@ -4,4 +4,5 @@ pub mod Guards
 pub mod Items
 pub mod Limits
 pub mod Lists
+pub mod OfWords
 pub mod Taken

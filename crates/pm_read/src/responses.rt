@@ -5,6 +5,7 @@ ghost use Rattle.serde_json.specs.View.{view, items_view};
 ghost use Rattle.pm_model.specs.Actions.{response_refusal};
 ghost use Rattle.pm_model.specs.Forms.{list_of, looking, mode_form};
 ghost use Rattle.pm_model.specs.ResponseForms.{act_as_set, act_of, action_form, as_set, assign_act, associate_act, both_at, create_act, deassign_act, delete_act, dissociate_act, do_form, formed, if_allowed, lift_act, prohibit_act, rights_listed, subject_term, term_sets, terms_form};
+ghost use Rattle.pm_read.specs.Rows.{FindsAct, IsNoneOf, act_words};
 
 use crate::forms::{MOST_IN_SETS, distinct, list, listed, mode, name, subject};
 use crate::terms::{given_name, guards_if, term_at};
@@ -153,23 +154,44 @@ fn lift(value: &Value) -> Option<Act>
     Some(Act::Lift { name })
 }
 
+// The act of a word of elements.
 #[tactic(auto, unfolding(pm_model::specs::Words::word_text))]
-fn act_of(alloc: Global, word: &str, value: &Value) -> Result<Option<Act>, Memory>
+fn element_act(word: &str, value: &Value) -> Option<Option<Act>>
+    ensures { FindsAct act_words word.now (act_of (looking (view value.now)) word.now) result }
+{
+    match word {
+        "create_user" => Some(create(Kind::User, value)),
+        "create_ua" => Some(create(Kind::Ua, value)),
+        "create_oa" => Some(create(Kind::Oa, value)),
+        "create_object" => Some(create(Kind::Object, value)),
+        "delete" => Some(delete(value)),
+        "assign" => Some(assign(value)),
+        "deassign" => Some(deassign(value)),
+        _ => None,
+    }
+}
+
+// The act of another word.
+#[tactic(auto, unfolding(pm_model::specs::Words::word_text))]
+fn rule_act(alloc: Global, word: &str, value: &Value) -> Result<Option<Act>, Memory>
+    requires { IsNoneOf act_words word.now }
     ensures { IfOk result (λ o. o ≡ act_of (looking (view value.now)) word.now) }
 {
     match word {
-        "create_user" => Ok(create(Kind::User, value)),
-        "create_ua" => Ok(create(Kind::Ua, value)),
-        "create_oa" => Ok(create(Kind::Oa, value)),
-        "create_object" => Ok(create(Kind::Object, value)),
-        "delete" => Ok(delete(value)),
-        "assign" => Ok(assign(value)),
-        "deassign" => Ok(deassign(value)),
         "associate" => associate(alloc, value),
         "dissociate" => Ok(dissociate(value)),
         "prohibit" => prohibit(alloc, value),
         "lift" => Ok(lift(value)),
         _ => Ok(None),
+    }
+}
+
+fn act_of(alloc: Global, word: &str, value: &Value) -> Result<Option<Act>, Memory>
+    ensures { IfOk result (λ o. o ≡ act_of (looking (view value.now)) word.now) }
+{
+    match element_act(word, value) {
+        Some(act) => Ok(act),
+        None => rule_act(alloc, word, value),
     }
 }
 

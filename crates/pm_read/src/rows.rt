@@ -3,18 +3,22 @@ ghost use Rattle.std.specs.Prelude.{Result, Ok, ◌≡◌};
 ghost use Rattle.serde_json.specs.View.{view};
 ghost use Rattle.pm_model.specs.Forms.{kind_of, looking};
 ghost use Rattle.pm_model.specs.Results.{and_then};
-ghost use Rattle.pm_model.specs.Asked.{access_of, admin_of, assign_of, associate_of, caps_of, changes_of, close_session_of, create_of, create_pc_of, deassign_of, define_right_of, delete_of, dissociate_of, do_at, drop_review_of, end_process_of, ends_of, entries_of, keep_of, kept_of, lift_of, name_at, oblige_of, open_session_of, prohibit_of, required, review_of, row_of, start_process_of, survey_of, when_at, withdraw_of};
+ghost use Rattle.pm_model.specs.Asked.{access_of, admin_of, assign_of, associate_of, caps_of, changes_of, close_session_of, create_of, create_pc_of, deassign_of, define_right_of, delete_of, dissociate_of, do_at, drop_review_of, end_process_of, ends_of, entries_of, keep_of, kept_of, lift_of, mode_at, name_at, oblige_of, open_session_of, prohibit_of, required, review_of, row_of, sets_of, start_process_of, survey_of, when_at, withdraw_of};
 ghost use Rattle.pm_model.specs.declared.lines.BadLine.{BadLine};
 ghost use Rattle.pm_model.specs.declared.requests.Command.{Command};
-ghost use Rattle.pm_model.specs.declared.requests.Command.TheVariants.{Keep};
+ghost use Rattle.pm_model.specs.declared.requests.Command.TheVariants.{Keep, Prohibit};
 ghost use Rattle.pm_model.specs.declared.requests.Question.{Question};
 ghost use Rattle.pm_read.specs.Reads.{Reads, ReadsRow};
+ghost use Rattle.pm_read.specs.Rows.{FindsRow, element_words, review_words, rule_words, session_words};
 
 use crate::errors::ReadError;
 use crate::forms::{mode_at, name_at, number_at, process, rights_at, sets, subject_at, users_at};
 use crate::responses::response;
 use crate::terms::when;
-use pm_model::{Awaited, BadLine, Body, Command, Key, Kind, Name, Question, Response, ReviewOf};
+use pm_model::{
+    Awaited, BadLine, Body, Command, Key, Kind, Name, NameList, Question, Response, ReviewOf,
+    Subject,
+};
 use serde_json::Value;
 use std::alloc::Global;
 
@@ -108,12 +112,16 @@ fn dissociate(value: &Value) -> Result<Command, BadLine>
     Ok(Command::Dissociate { ua, at })
 }
 
-fn prohibit(alloc: Global, value: &Value) -> Result<Command, ReadError>
-    ensures { Reads result (prohibit_of (looking (view value.now))) }
+// The same, once its first three fields were read.
+fn prohibit_with(
+    name: Name,
+    subject: Subject<Name, u32>,
+    rights: NameList,
+    value: &Value,
+) -> Result<Command, ReadError>
+    ensures { Reads result (and_then (sets_of (looking (view value.now))) (λ sets. and_then (mode_at (looking (view value.now))) (λ mode. Ok (Prohibit name subject rights sets.0 sets.1 mode)))) }
 {
-    let name = name_at(Key::Name, value)?;
-    let subject = subject_at(value)?;
-    let rights = rights_at(alloc, value)?;
+    let alloc = rights.allocator();
     let (inc, exc) = sets(alloc, value)?;
     let mode = mode_at(value)?;
     Ok(Command::Prohibit {
@@ -124,6 +132,15 @@ fn prohibit(alloc: Global, value: &Value) -> Result<Command, ReadError>
         exc,
         mode,
     })
+}
+
+fn prohibit(alloc: Global, value: &Value) -> Result<Command, ReadError>
+    ensures { Reads result (prohibit_of (looking (view value.now))) }
+{
+    let name = name_at(Key::Name, value)?;
+    let subject = subject_at(value)?;
+    let rights = rights_at(alloc, value)?;
+    prohibit_with(name, subject, rights, value)
 }
 
 fn lift(value: &Value) -> Result<Command, BadLine>
@@ -301,10 +318,10 @@ fn plain_review(question: Result<Question, BadLine>, value: &Value) -> Result<Bo
     }
 }
 
-/// The row of the word, where it is one.
+// The row of a word of sessions and processes, or of the version.
 #[tactic(auto, unfolding(pm_model::specs::Words::word_text))]
-pub(crate) fn row(alloc: Global, word: &str, value: &Value) -> Option<Result<Body, ReadError>>
-    ensures { ReadsRow result (row_of (looking (view value.now)) word.now) }
+fn session_row(word: &str, value: &Value) -> Option<Result<Body, ReadError>>
+    ensures { FindsRow session_words word.now (row_of (looking (view value.now)) word.now) result }
 {
     match word {
         "version" => Some(Ok(Body::Version)),
@@ -312,6 +329,16 @@ pub(crate) fn row(alloc: Global, word: &str, value: &Value) -> Option<Result<Bod
         "close_session" => Some(close_session(value)),
         "start_process" => Some(start_process(value)),
         "end_process" => Some(end_process(value)),
+        _ => None,
+    }
+}
+
+// The row of a word of elements.
+#[tactic(auto, unfolding(pm_model::specs::Words::word_text))]
+fn element_row(word: &str, value: &Value) -> Option<Result<Body, ReadError>>
+    ensures { FindsRow element_words word.now (row_of (looking (view value.now)) word.now) result }
+{
+    match word {
         "create_pc" => Some(plain_admin(create_pc(value), value)),
         "create_user" => Some(plain_admin(create(Kind::User, value), value)),
         "create_ua" => Some(plain_admin(create(Kind::Ua, value), value)),
@@ -320,6 +347,16 @@ pub(crate) fn row(alloc: Global, word: &str, value: &Value) -> Option<Result<Bod
         "delete" => Some(plain_admin(delete(value), value)),
         "assign" => Some(plain_admin(assign(value), value)),
         "deassign" => Some(plain_admin(deassign(value), value)),
+        _ => None,
+    }
+}
+
+// The row of a word of what gives rights, takes them or acts.
+#[tactic(auto, unfolding(pm_model::specs::Words::word_text))]
+fn rule_row(alloc: Global, word: &str, value: &Value) -> Option<Result<Body, ReadError>>
+    ensures { FindsRow rule_words word.now (row_of (looking (view value.now)) word.now) result }
+{
+    match word {
         "associate" => Some(admin(associate(alloc, value), value)),
         "dissociate" => Some(plain_admin(dissociate(value), value)),
         "prohibit" => Some(admin(prohibit(alloc, value), value)),
@@ -327,6 +364,16 @@ pub(crate) fn row(alloc: Global, word: &str, value: &Value) -> Option<Result<Bod
         "define_right" => Some(plain_admin(define_right(value), value)),
         "oblige" => Some(admin(oblige(alloc, value), value)),
         "withdraw" => Some(plain_admin(withdraw(value), value)),
+        _ => None,
+    }
+}
+
+// The row of an access, or of a word of reviews.
+#[tactic(auto, unfolding(pm_model::specs::Words::word_text))]
+fn review_row(alloc: Global, word: &str, value: &Value) -> Option<Result<Body, ReadError>>
+    ensures { FindsRow review_words word.now (row_of (looking (view value.now)) word.now) result }
+{
+    match word {
         "keep" => Some(plain_admin(keep(value), value)),
         "drop_review" => Some(plain_admin(drop_review(value), value)),
         "access" => Some(access(value)),
@@ -337,4 +384,20 @@ pub(crate) fn row(alloc: Global, word: &str, value: &Value) -> Option<Result<Bod
         "changes" => Some(plain_review(changes(value), value)),
         _ => None,
     }
+}
+
+/// The row of the word, where it is one.
+pub(crate) fn row(alloc: Global, word: &str, value: &Value) -> Option<Result<Body, ReadError>>
+    ensures { ReadsRow result (row_of (looking (view value.now)) word.now) }
+{
+    if let Some(row) = session_row(word, value) {
+        return Some(row);
+    }
+    if let Some(row) = element_row(word, value) {
+        return Some(row);
+    }
+    if let Some(row) = rule_row(alloc, word, value) {
+        return Some(row);
+    }
+    review_row(alloc, word, value)
 }

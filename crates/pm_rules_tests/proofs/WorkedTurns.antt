@@ -1,11 +1,12 @@
--- On the worked occasion each action is passed by, and nothing is judged; and that memory was wanting stays so.
+-- On the worked occasion each action is passed by, and there is no work; and that memory was wanting stays so.
 use Rattle.std.proofs.Common.{◌≡◌, ℕ, ◌-◌, ◌||◌, Bool, true, false, List, Ok, option_map, slice_get, refl, zero, suc}
 use Rattle.std.specs.Option.{option_and_then}
 use Rattle.pm_model.specs.Containment.{contained}
 use Rattle.pm_model.specs.State.{opening_graph}
 use Rattle.pm_model.specs.declared.obligations.Obligation.{Obligation}
 use Rattle.pm_model.specs.declared.obligations.Place.{Place}
-use Rattle.pm_runner.specs.Turns.{acted_at, acted_by, judged_acted_at, judged_acted_by}
+use Rattle.pm_affect.specs.Counting.{Work}
+use Rattle.pm_runner.specs.Turns.{acted_at, acted_by, work_acted_at, work_acted_by}
 use Rattle.pm_runner.specs.Worked.{occasion_of}
 
 -- by their places from 0
@@ -25,21 +26,21 @@ passed first second place (suc (suc n)) m = refl
 pub passed_by : (first second : List ℕ) (place : Place) → acted_at (occasion_of first second) opening_graph place ≡ Ok opening_graph
 passed_by first second place = passed first second place (place.obligation - 1) (place.action - 1)
 
-judged-none : (first second : List ℕ) (place : Place) (n m : ℕ) →
-    judged_acted_by (occasion_of first second) opening_graph place
+done-none : (w : Work) (first second : List ℕ) (place : Place) (n m : ℕ) →
+    work_acted_by w (occasion_of first second) opening_graph place
     (option_and_then (λ (o : Obligation). option_map (λ a. (o, a)) (slice_get o.response m)) (slice_get (occasion_of first second).obligations n))
     ≡ 0
 unfolding contained
-judged-none first second place zero zero = refl
-judged-none first second place zero (suc zero) = refl
-judged-none first second place zero (suc (suc m)) = refl
-judged-none first second place (suc zero) zero = refl
-judged-none first second place (suc zero) (suc zero) = refl
-judged-none first second place (suc zero) (suc (suc m)) = refl
-judged-none first second place (suc (suc n)) m = refl
+done-none w first second place zero zero = refl
+done-none w first second place zero (suc zero) = refl
+done-none w first second place zero (suc (suc m)) = refl
+done-none w first second place (suc zero) zero = refl
+done-none w first second place (suc zero) (suc zero) = refl
+done-none w first second place (suc zero) (suc (suc m)) = refl
+done-none w first second place (suc (suc n)) m = refl
 
-pub none_judged : (first second : List ℕ) (place : Place) → judged_acted_at (occasion_of first second) opening_graph place ≡ 0
-none_judged first second place = judged-none first second place (place.obligation - 1) (place.action - 1)
+pub none_done : (w : Work) (first second : List ℕ) (place : Place) → work_acted_at w (occasion_of first second) opening_graph place ≡ 0
+none_done w first second place = done-none w first second place (place.obligation - 1) (place.action - 1)
 
 -- ---- whether memory was wanting
 

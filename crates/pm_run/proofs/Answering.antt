@@ -1,18 +1,19 @@
 -- Lines are answered, one after another.
-use Rattle.std.proofs.Common.{◌≡◌, ◌<◌, ℕ, List, [], ◌∷◌, ◌++◌, length, Option, None, Some, option_map, Result, Ok, Err, OnOk, refl, sym, ◌∙◌, ap, arith, append_assoc, length-append}
+use Rattle.std.proofs.Common.{◌≡◌, ◌<◌, ◌≤◌, ℕ, List, [], ◌∷◌, ◌++◌, length, Option, None, Some, option_map, Result, Ok, Err, OnOk, refl, sym, ◌∙◌, ap, arith, subst, append_assoc, length-append}
 use Rattle.std.proofs.lemmas.List.{append-nil}
 use Rattle.std.proofs.lemmas.Option.{none-some, same_Some}
 use Rattle.pm_model.specs.State.{State}
 use Rattle.pm_model.specs.Answer.{after}
 use Rattle.pm_model.specs.Lines.{Event, cut, event_of}
-use Rattle.pm_model.specs.Solo.{asked_at, answer_what, line_told, reply_to, replies}
+use Rattle.pm_model.specs.Solo.{asked_at, answer_what, line_told, reply_to, replies, state_after}
 use Rattle.pm_model.specs.declared.requests.Asked.{Asked}
 use Rattle.pm_session.proofs.LineLaws.{IsCut-cut, events-cut}
+use Rattle.pm_session.specs.Streams.{HasReplyRoom}
 use Rattle.pm_session.specs.Taken.{rest_of}
 use Rattle.std.specs.Bool.{⊤}
 use Rattle.pm_run.specs.declared.lines.Stop.{Stop}
 use Rattle.pm_run.specs.declared.lines.Stop.TheVariants as stop
-use Rattle.pm_run.specs.Coming.{coming, ahead, state_past}
+use Rattle.pm_run.specs.Coming.{coming, ahead, state_past, longest_reply}
 use Rattle.pm_run.specs.Parts.{next_asked}
 use Rattle.pm_run.specs.Wrote.{WrotePart, Moved, Answered, AnsweredWhole}
 use Rattle.pm_io.proofs.Known.{Appends-nil, Appends-append}
@@ -48,6 +49,11 @@ next-line w a h = next-by (cut w) w a refl h
 reply-is : (S : State) (o : List ℕ) (a : Asked) (event : Event) → a ≡ asked_at event → o ≡ line_told a.id S (answer_what S a.what) → o ≡ reply_to S event
 reply-is S o a event asked is = is ∙ ap (λ (b : Asked). line_told b.id S (answer_what S b.what)) asked
 
+-- the last reply is no longer than the longest
+longest-last : (R : State) (lines : List Event) (e : Event) → length (reply_to (state_past R lines) e) ≤ longest_reply R (lines ++ e ∷ [])
+longest-last R [] e = omega arith
+longest-last R (x ∷ xs) e = let h = longest-last (state_after R x) xs e in omega (arith, h)
+
 -- ---- what was written and what stands in the output, together
 
 -- nothing yet
@@ -57,6 +63,7 @@ answered-none before output S from none = record {
   written = [];
   appended = Appends-nil before;
   together = none;
+  short = let l = ap length none in omega (arith, l);
   state = refl;
   told = λ more. refl;
 }
@@ -64,9 +71,9 @@ answered-none before output S from none = record {
 -- one more line was answered
 pub answered-line : (before now : Option (List ℕ)) (o p : List ℕ) (R S T : State) (from : List ℕ → List Event) (w v : List ℕ) (a : Asked)
     → Answered before now o R S from (coming w) → NextLine w a
-    → p ≡ o ++ line_told a.id S (answer_what S a.what) → T ≡ after S (answer_what S a.what) → v ≡ rest_of w (cut w)
+    → HasReplyRoom o → p ≡ o ++ line_told a.id S (answer_what S a.what) → T ≡ after S (answer_what S a.what) → v ≡ rest_of w (cut w)
     → Answered before now p R T from (coming v)
-answered-line before now o p R S T from w v a h next is state rest =
+answered-line before now o p R S T from w v a h next room is state rest =
     let one = reply-is S (line_told a.id S (answer_what S a.what)) a next.event next.asked refl in
     record {
       lines = h.lines ++ next.event ∷ [];
@@ -78,6 +85,12 @@ answered-line before now o p R S T from w v a h next is state rest =
           ∙ ap (λ l. replies R h.lines ++ l) (sym (append-nil (reply_to S next.event)))
           ∙ ap (λ t. replies R h.lines ++ replies t (next.event ∷ [])) h.state
           ∙ sym (replies-append R h.lines (next.event ∷ []));
+      short =
+          let last =
+          subst (λ (t : State). length (reply_to t next.event) ≤ longest_reply R (h.lines ++ next.event ∷ [])) (sym h.state)
+          (longest-last R h.lines next.event) in
+          let both = ap length (is ∙ ap (λ (l : List ℕ). o ++ l) one) ∙ length-append o (reply_to S next.event) in
+          omega (arith, last, both, room);
       state =
           state ∙ ap (λ (b : Asked). after S (answer_what S b.what)) next.asked
           ∙ ap (λ t. state_past t (next.event ∷ [])) h.state ∙ sym (state_past-append R h.lines (next.event ∷ []));
@@ -94,6 +107,10 @@ answered-moved before now later o q p S T from to h same moved = record {
   written = h.written ++ moved.written;
   appended = Appends-append before now later h.written moved.written h.appended moved.appended;
   together = append_assoc h.written moved.written p ∙ ap (λ l. h.written ++ l) (sym moved.split ∙ same) ∙ h.together;
+  short =
+      let less = sym (ap length same) ∙ ap length moved.split ∙ length-append moved.written p in
+      let before = h.short in
+      omega (arith, less, before);
   state = h.state;
   told = h.told;
 }

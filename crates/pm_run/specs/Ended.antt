@@ -9,7 +9,7 @@ use Rattle.pm_run.specs.Coming.{coming, coming_past}
 use Rattle.pm_run.specs.Ran.{Ran, IsComplete}
 use Rattle.pm_run.specs.Wrote.{Wrote}
 use Rattle.pm_run.specs.declared.statuses.Status.{Status}
-use Rattle.pm_run.specs.declared.statuses.Status.TheVariants.{Done, Usage, ReadFault, WriteFault, Serve, ListenFault}
+use Rattle.pm_run.specs.declared.statuses.Status.TheVariants.{Done, Usage, ReadFault, WriteFault, Serve, ListenFault, ServeFault}
 
 -- what was done so far
 pub record Running (left rest taken grown : Option (List ℕ)) (S : State) (waiting output : List ℕ) (total : ℕ) : Type 0 where
@@ -35,6 +35,7 @@ pub record Ended (limit : ℕ) (old new : Sides) (status : Status) : Type 0 wher
   pub usage : status ≢ Usage
   pub serve : (port workers : ℕ) → status ≢ Serve port workers
   pub listening : status ≢ ListenFault
+  pub serving : status ≢ ServeFault
   pub complete : ¬ Rose old.read_faults new.read_faults → ¬ Rose old.write_faults new.write_faults → IsComplete limit old.left status
   pub read : status ≡ ReadFault → Rose old.read_faults new.read_faults
   pub read_kept : status ≢ ReadFault → new.read_faults ≡ old.read_faults
@@ -59,7 +60,6 @@ pub record Advanced (old new : Sides) (S T : State) (from to : Streams) (most co
   pub wrote : Wrote old.taken new.taken S T (coming_past from.waiting piece) (coming to.waiting)
   pub drained : cut to.waiting ≡ None
   pub sent : to.output ≡ []
-  pub room : 1024 ≤ to.capacity
   pub read : new.read_faults ≡ old.read_faults
   pub unended : new.ends ≡ old.ends
   pub written : new.write_faults ≡ old.write_faults

@@ -7,7 +7,7 @@ use Rattle.pm_model.specs.Solo.{solo, replies}
 use Rattle.pm_run.specs.Fronts.{IsProperFront}
 use Rattle.pm_run.specs.Statuses.{ending}
 use Rattle.pm_run.specs.declared.statuses.Status.{Status}
-use Rattle.pm_run.specs.declared.statuses.Status.TheVariants.{Done, Usage, ReadFault, WriteFault, Memory, TooMuch, Serve, ListenFault}
+use Rattle.pm_run.specs.declared.statuses.Status.TheVariants.{Done, Usage, ReadFault, WriteFault, Memory, TooMuch, Serve, ListenFault, ServeFault}
 
 -- the whole replies to the first lines of the bytes, for some number of them
 pub record AreWholeReplies (written bytes : List ℕ) : Type 0 where
@@ -25,6 +25,7 @@ IsDue Memory bytes written = AreWholeReplies written bytes
 IsDue TooMuch bytes written = written ≡ solo bytes
 IsDue (Serve port workers) bytes written = (bytes ≡ []) × (written ≡ [])
 IsDue ListenFault bytes written = (bytes ≡ []) × (written ≡ [])
+IsDue ServeFault bytes written = (bytes ≡ []) × (written ≡ [])
 
 pub record Ran (limit : ℕ) (left rest taken grown : Option (List ℕ)) (status : Status) : Type 0 where
   -- what was taken from the source, and what `out` took

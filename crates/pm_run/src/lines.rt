@@ -7,6 +7,7 @@ ghost use Rattle.pm_model.specs.Lines.{cut};
 ghost use Rattle.pm_model.specs.Solo.{asked_at, answer_what, line_told};
 ghost use Rattle.pm_model.specs.Answer.{after};
 ghost use Rattle.pm_model.specs.History.{state_of};
+ghost use Rattle.pm_session.specs.Streams.{HasReplyRoom};
 ghost use Rattle.pm_session.specs.Taken.{shown, rest_of};
 ghost use Rattle.pm_run.specs.Wrote.{Wrote, WroteWhole, WrotePart, Moved, Answered, AnsweredWhole};
 ghost use Rattle.pm_run.specs.Coming.{coming, ahead};
@@ -14,7 +15,6 @@ ghost use Rattle.pm_run.specs.Parts.{next_asked, HasStopCause};
 
 use pm_machine::Answerer;
 use pm_model::{Asked, BadLine, Failed, LineEvent, Memory, Sink, What};
-use pm_print::LONGEST_REPLY;
 use pm_read::read_request;
 use pm_session::Session;
 use std::alloc::Global;
@@ -100,7 +100,6 @@ fn next_asked(alloc: Global, session: &mut Session) -> Result<Option<Asked>, Mem
     ensures asked { IfOk result (λ asked. asked ≡ next_asked session.old.waiting) }
     ensures waiting { session.new.waiting ≡ rest_of session.old.waiting (cut session.old.waiting) }
     ensures output { session.new.output ≡ session.old.output }
-    ensures capacity { session.new.capacity ≡ session.old.capacity }
 {
     match session.take() {
         None => Ok(None),
@@ -119,13 +118,12 @@ fn answer<M: Answerer, R: Threads + Sync>(
     machine: &mut M,
     asked: Asked,
 ) -> Result<(), Memory>
-    requires { length session.old.output + LONGEST_REPLY ≤ session.old.capacity }
+    requires { HasReplyRoom session.old.output }
     ensures output { OnOk result (session.new.output ≡ session.old.output ++ line_told asked.id (state_of (M.machine machine.old)) (answer_what (state_of (M.machine machine.old)) asked.what)) }
     ensures state { OnOk result (state_of (M.machine machine.new) ≡ after (state_of (M.machine machine.old)) (answer_what (state_of (M.machine machine.old)) asked.what)) }
     ensures err { OnErr result (state_of (M.machine machine.new) ≡ state_of (M.machine machine.old)) }
     ensures kept { OnErr result (session.new.output ≡ session.old.output) }
     ensures waiting { session.new.waiting ≡ session.old.waiting }
-    ensures capacity { session.old.capacity ≤ session.new.capacity }
 {
     match &asked.what {
         What::Bad(bad) => session.bad(asked.id, machine.version(), bad),
@@ -145,7 +143,6 @@ fn send<O: Sink>(session: &mut Session, out: &mut O) -> Result<(), Failed>
     ensures err { OnErr result (WrotePart (O.taken out.old) (O.taken out.new) (λ _. session.old.output)) }
     ensures cause { HasCause (O.faults out.old) (O.faults out.new) result }
     ensures waiting { session.new.waiting ≡ session.old.waiting }
-    ensures capacity { session.new.capacity ≡ session.old.capacity }
 {
     write_all(out, session.out())?;
     let count = session.out().len();
@@ -155,13 +152,11 @@ fn send<O: Sink>(session: &mut Session, out: &mut O) -> Result<(), Failed>
 
 // Room for a reply: where it is lacking, what stands in the output is written first.
 fn make_room<O: Sink>(session: &mut Session, out: &mut O) -> Result<(), Failed>
-    requires { LONGEST_REPLY ≤ session.old.capacity }
     ensures ok { OnOk result (Moved (O.taken out.old) (O.taken out.new) session.old.output session.new.output) }
-    ensures room { OnOk result (length session.new.output + LONGEST_REPLY ≤ session.new.capacity) }
+    ensures room { OnOk result (HasReplyRoom session.new.output) }
     ensures err { OnErr result (WrotePart (O.taken out.old) (O.taken out.new) (λ _. session.old.output)) }
     ensures cause { HasCause (O.faults out.old) (O.faults out.new) result }
     ensures waiting { session.new.waiting ≡ session.old.waiting }
-    ensures capacity { session.new.capacity ≡ session.old.capacity }
 {
     if session.has_room() {
         return Ok(());
@@ -178,12 +173,10 @@ fn answer_waiting<M: Answerer, O: Sink, R: Threads + Sync>(
     machine: &mut M,
     out: &mut O,
 ) -> Result<(), Stop>
-    requires sent { session.old.output ≡ [] }
-    requires room { LONGEST_REPLY ≤ session.old.capacity }
+    requires { session.old.output ≡ [] }
     ensures ok { OnOk result (Answered (O.taken out.old) (O.taken out.new) session.new.output (state_of (M.machine machine.old)) (state_of (M.machine machine.new))
         (coming session.old.waiting) (coming session.new.waiting)) }
     ensures drained { OnOk result (cut session.new.waiting ≡ None) }
-    ensures room { OnOk result (LONGEST_REPLY ≤ session.new.capacity) }
     ensures fault { result ≡ Err Stop.WriteFault
         → WrotePart (O.taken out.old) (O.taken out.new) (ahead (state_of (M.machine machine.old)) (coming session.old.waiting)) }
     ensures memory { result ≡ Err Stop.Memory
@@ -205,13 +198,11 @@ pub(crate) fn answer_lines<M: Answerer, O: Sink, R: Threads + Sync>(
     machine: &mut M,
     out: &mut O,
 ) -> Result<(), Stop>
-    requires sent { session.old.output ≡ [] }
-    requires room { LONGEST_REPLY ≤ session.old.capacity }
+    requires { session.old.output ≡ [] }
     ensures ok { OnOk result (Wrote (O.taken out.old) (O.taken out.new) (state_of (M.machine machine.old)) (state_of (M.machine machine.new))
         (coming session.old.waiting) (coming session.new.waiting)) }
     ensures drained { OnOk result (cut session.new.waiting ≡ None) }
     ensures sent { OnOk result (session.new.output ≡ []) }
-    ensures room { OnOk result (LONGEST_REPLY ≤ session.new.capacity) }
     ensures fault { result ≡ Err Stop.WriteFault
         → WrotePart (O.taken out.old) (O.taken out.new) (ahead (state_of (M.machine machine.old)) (coming session.old.waiting)) }
     ensures memory { result ≡ Err Stop.Memory

@@ -13,15 +13,11 @@ use crate::lines::{Stop, answer_lines};
 use crate::statuses::Status;
 use pm_machine::Answerer;
 use pm_model::{Sink, Source};
-use pm_print::LONGEST_REPLY;
 use pm_session::Session;
 use std::alloc::Global;
 use std::thread::Threads;
 
 const PIECE: usize = 4096;
-
-// How many bytes of replies are written together at most.
-const TOGETHER: usize = 65536;
 
 impl From<Stop> for Status {
     ghost use Rattle.std.specs.Prelude.{◌≡◌};
@@ -48,13 +44,11 @@ fn turn<M: Answerer, O: Sink, R: Threads + Sync>(
 ) -> Result<(), Stop>
     requires drained { cut session.old.waiting ≡ None }
     requires sent { session.old.output ≡ [] }
-    requires room { LONGEST_REPLY ≤ session.old.capacity }
     requires short { length piece.now ≤ 4096 }
     ensures ok { OnOk result (Wrote (O.taken out.old) (O.taken out.new) (state_of (M.machine machine.old)) (state_of (M.machine machine.new))
         (coming_past session.old.waiting piece.now) (coming session.new.waiting)) }
     ensures drained { OnOk result (cut session.new.waiting ≡ None) }
     ensures sent { OnOk result (session.new.output ≡ []) }
-    ensures room { OnOk result (LONGEST_REPLY ≤ session.new.capacity) }
     ensures fault { result ≡ Err Stop.WriteFault
         → WrotePart (O.taken out.old) (O.taken out.new) (ahead (state_of (M.machine machine.old)) (coming_past session.old.waiting piece.now)) }
     ensures memory { result ≡ Err Stop.Memory
@@ -79,7 +73,6 @@ fn answer_piece<M: Answerer, I: Source, O: Sink, R: Threads + Sync>(
     requires short { length piece.old ≤ 4096 }
     requires drained { cut session.old.waiting ≡ None }
     requires sent { session.old.output ≡ [] }
-    requires room { LONGEST_REPLY ≤ session.old.capacity }
     ensures ok { IfOk result (Advanced
         (record { left = I.left source.old; taken = O.taken out.old; read_faults = I.faults source.old; ends = I.ends source.old; write_faults = O.faults out.old })
         (record { left = I.left source.new; taken = O.taken out.new; read_faults = I.faults source.new; ends = I.ends source.new; write_faults = O.faults out.new })
@@ -117,7 +110,7 @@ fn answer_all<M: Answerer, I: Source, O: Sink, R: Threads + Sync>(
     source: &mut I,
     out: &mut O,
 ) -> Status
-    requires session { session.old ≡ record { waiting = []; output = []; capacity = 65536 } }
+    requires session { session.old ≡ record { waiting = []; output = [] } }
     requires machine { M.machine machine.old ≡ opening_machine }
     ensures { Ended limit
         (record { left = I.left source.old; taken = O.taken out.old; read_faults = I.faults source.old; ends = I.ends source.old; write_faults = O.faults out.old })
@@ -149,6 +142,7 @@ pub fn run_lines<M: Answerer + Drop, I: Source, O: Sink, R: Threads + Sync>(
     ensures usage { result ≢ Status.Usage }
     ensures serve { (port workers : ℕ) → result ≢ Status.Serve port workers }
     ensures listening { result ≢ Status.ListenFault }
+    ensures serving { result ≢ Status.ServeFault }
     ensures complete { ¬ Rose (I.faults source.old) (I.faults source.new)
         → ¬ Rose (O.faults out.old) (O.faults out.new) → IsComplete limit (I.left source.old) result }
     ensures read { result ≡ Status.ReadFault → Rose (I.faults source.old) (I.faults source.new) }
@@ -158,7 +152,7 @@ pub fn run_lines<M: Answerer + Drop, I: Source, O: Sink, R: Threads + Sync>(
     ensures end { result ≡ Status.Done → I.ends source.new ≡ raised (I.ends source.old) }
     ensures end_kept { result ≢ Status.Done → I.ends source.new ≡ I.ends source.old }
 {
-    let Ok(mut session) = Session::new(alloc, TOGETHER) else {
+    let Ok(mut session) = Session::new(alloc) else {
         return Status::Memory;
     };
     let Ok(mut machine) = M::opening(alloc) else {

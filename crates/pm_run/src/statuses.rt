@@ -3,7 +3,7 @@
 /// How the program ended.
 #[derive(Clone, Copy, Debug, PartialEq, Eq)]
 pub enum Status {
-    /// All of the input was read, and its lines answered.
+    /// All of the input was read, and its lines answered; or the summary of a generated policy was written.
     Done,
     /// The words of the command line are outside the grammar.
     Usage,
@@ -19,6 +19,8 @@ pub enum Status {
     Serve { port: u16, workers: u16 },
     /// The system gives no port to listen on, or nothing to wait by.
     ListenFault,
+    /// A server can't go on: a worker has no thread, or it or the acceptor has nothing to wait by any more.
+    ServeFault,
 }
 
 impl Status {
@@ -37,6 +39,7 @@ impl Status {
             Status::Memory => 5,
             Status::TooMuch => 6,
             Status::ListenFault => 7,
+            Status::ServeFault => 11,
         }
     }
 
@@ -46,12 +49,13 @@ impl Status {
     {
         match self {
             Status::Done | Status::Serve { .. } => "",
-            Status::Usage => "usage: ngac run | ngac serve PORT WORKERS\n",
+            Status::Usage => "usage: ngac run | ngac generate N | ngac serve PORT WORKERS\n",
             Status::ReadFault => "ngac: read failed\n",
             Status::WriteFault => "ngac: write failed\n",
             Status::Memory => "ngac: out of memory\n",
             Status::TooMuch => "ngac: too much input\n",
             Status::ListenFault => "ngac: listen failed\n",
+            Status::ServeFault => "ngac: serving failed\n",
         }
     }
 }

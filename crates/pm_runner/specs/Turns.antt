@@ -9,7 +9,7 @@ use Rattle.pm_model.specs.declared.actions.Action.{Action}
 use Rattle.pm_model.specs.declared.obligations.Obligation.{Obligation}
 use Rattle.pm_model.specs.declared.obligations.Place.{Place}
 use Rattle.pm_model.specs.declared.replies.Refusal.{Refusal}
-use Rattle.pm_affect.specs.Counting.{judged_acted, judged_response_from, judged_responses}
+use Rattle.pm_affect.specs.Counting.{Work, work_acted, work_response_from, work_responses}
 
 -- what is responded to: the event's names, the version that the entry will have, the obligations that match, in order
 pub record Occasion : Type 0 where
@@ -87,24 +87,25 @@ pub record IsPartway (occasion : Occasion) (G H : Graph) : Type 0 where
   pub stands : slice_get occasion.obligations (place.obligation - 1) ≡ Some obligation
   pub made : acted_before occasion G place obligation ≡ Ok H
 
--- ---- how many rights are judged for kept reviews
+-- ---- how much work they are
 
--- for the responses of these obligations, where they are the first that match
-abbrev pub judged_responded_by : Occasion → Graph → List Obligation → ℕ
-judged_responded_by occasion G obligations = judged_responses occasion.names occasion.version G obligations
+module _ (w : Work) (occasion : Occasion) where
+  -- the responses of these obligations, where they are the first that match
+  abbrev pub work_responded_by : Graph → List Obligation → ℕ
+  work_responded_by G obligations = work_responses w occasion.names occasion.version G obligations
 
--- for all responses
-abbrev pub judged_responded : Occasion → Graph → ℕ
-judged_responded occasion G = judged_responded_by occasion G occasion.obligations
+  -- all responses
+  abbrev pub work_responded : Graph → ℕ
+  work_responded G = work_responded_by G occasion.obligations
 
--- for these actions of an obligation, where they are its first; its place counts from 1
-abbrev pub judged_obliged : Occasion → Obligation → ℕ → Graph → List Action → ℕ
-judged_obliged occasion o place G actions = judged_response_from occasion.names occasion.version o place 1 G actions
+  -- these actions of an obligation, where they are its first; its place counts from 1
+  abbrev pub work_obliged : Obligation → ℕ → Graph → List Action → ℕ
+  work_obliged o place G actions = work_response_from w occasion.names occasion.version o place 1 G actions
 
-abbrev pub judged_acted_by : Occasion → Graph → Place → Option (Obligation × Action) → ℕ
-judged_acted_by occasion G place None = 0
-judged_acted_by occasion G place (Some (o, a)) = judged_acted occasion.names occasion.version G o.author place a
+  abbrev pub work_acted_by : Graph → Place → Option (Obligation × Action) → ℕ
+  work_acted_by G place None = 0
+  work_acted_by G place (Some (o, a)) = work_acted w occasion.names occasion.version G o.author place a
 
--- for the action at a place
-abbrev pub judged_acted_at : Occasion → Graph → Place → ℕ
-judged_acted_at occasion G place = judged_acted_by occasion G place (standing occasion.obligations place)
+  -- the action at a place
+  abbrev pub work_acted_at : Graph → Place → ℕ
+  work_acted_at G place = work_acted_by G place (standing occasion.obligations place)

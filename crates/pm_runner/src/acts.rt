@@ -3,8 +3,8 @@
 ghost use Rattle.std.specs.Prelude.{◌≡◌, ◌+◌, ◌||◌, ℕ, Bool, List, OnOk, IfErr, Ok};
 ghost use Rattle.pm_model.specs.State.{Graph};
 ghost use Rattle.pm_model.specs.declared.requests.Entry.{Entry};
-ghost use Rattle.pm_affect.specs.Counting.{capped};
-ghost use Rattle.pm_runner.specs.Turns.{Occasion, IsTurn, acted_at, judged_acted_at};
+ghost use Rattle.pm_affect.specs.Counting.{Work, capped};
+ghost use Rattle.pm_runner.specs.Turns.{Occasion, IsTurn, acted_at, work_acted_at};
 ghost use Rattle.pm_runner.specs.Outcomes.{IsLeft, IsRefusal, wants_memory};
 
 use crate::errors::ActError;
@@ -21,8 +21,8 @@ pub trait Acts {
     /// The history that led to it, which no action makes longer.
     ghost history: { Self → List Entry };
 
-    /// How many rights it has judged for kept reviews, up to 2^64 - 1.
-    ghost judged: { Self → ℕ };
+    /// How much work it has done, each count up to 2^64 - 1.
+    ghost done: { Self → Work → ℕ };
 
     /// Whether memory was wanting for an action.
     ghost short: { Self → Bool };
@@ -36,7 +36,7 @@ pub trait Acts {
         ensures refused { IfErr result (IsRefusal (acted_at (occasion self.old) (graph self.old) place)) }
         ensures same { occasion self.new ≡ occasion self.old }
         ensures history { history self.new ≡ history self.old }
-        ensures judged { OnOk result (capped (judged self.new) ≡ capped (judged self.old + judged_acted_at (occasion self.old) (graph self.old) place)) }
+        ensures done { (w : Work) → OnOk result (capped (done self.new w) ≡ capped (done self.old w + work_acted_at w (occasion self.old) (graph self.old) place)) }
         ensures short { short self.new ≡ (short self.old || wants_memory result) }
         ensures err { IfErr result (IsLeft (graph self.old) (graph self.new) (acted_at (occasion self.old) (graph self.old) place)) };
 }

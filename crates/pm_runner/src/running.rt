@@ -3,8 +3,8 @@
 ghost use Rattle.std.specs.Prelude.{◌≡◌, ◌+◌, ◌<◌, ◌≤◌, ◌||◌, length, All, OnOk, OnErr, IfErr, IsOk, Ok};
 ghost use Rattle.pm_model.specs.Obligations.{max_obligations};
 ghost use Rattle.pm_runner.specs.Standing.{StandAt};
-ghost use Rattle.pm_affect.specs.Counting.{capped};
-ghost use Rattle.pm_runner.specs.Turns.{IsTurn, IsDue, IsPartOf, IsPartway, acted_or_stopped, judged_acted_at, judged_obliged, judged_responded, obliged, responded};
+ghost use Rattle.pm_affect.specs.Counting.{Work, capped};
+ghost use Rattle.pm_runner.specs.Turns.{IsTurn, IsDue, IsPartOf, IsPartway, acted_or_stopped, obliged, responded, work_acted_at, work_obliged, work_responded};
 ghost use Rattle.pm_runner.specs.Outcomes.{IsStop, MayBeDone, run_wants_memory};
 
 use crate::acts::Acts;
@@ -20,7 +20,7 @@ fn act_at<A: Acts>(acts: &mut A, obligation: &Obligation, place: Place) -> Resul
     ensures stopped { IfErr result (IsStop (acted_or_stopped (A.occasion acts.old) (A.graph acts.old) place obligation.now)) }
     ensures same { A.occasion acts.new ≡ A.occasion acts.old }
     ensures history { A.history acts.new ≡ A.history acts.old }
-    ensures judged { OnOk result (capped (A.judged acts.new) ≡ capped (A.judged acts.old + judged_acted_at (A.occasion acts.old) (A.graph acts.old) place)) }
+    ensures done { (w : Work) → OnOk result (capped (A.done acts.new w) ≡ capped (A.done acts.old w + work_acted_at w (A.occasion acts.old) (A.graph acts.old) place)) }
     ensures short { A.short acts.new ≡ (A.short acts.old || run_wants_memory result) }
     ensures err { OnErr result (MayBeDone (A.graph acts.old) (A.graph acts.new) (acted_or_stopped (A.occasion acts.old) (A.graph acts.old) place obligation.now)) }
 {
@@ -47,7 +47,7 @@ fn run_obligation<A: Acts>(
     ensures stopped { IfErr result (IsStop (obliged (A.occasion acts.old) obligation.now (index + 1) (A.graph acts.old) obligation.now.response)) }
     ensures same { A.occasion acts.new ≡ A.occasion acts.old }
     ensures history { A.history acts.new ≡ A.history acts.old }
-    ensures judged { OnOk result (capped (A.judged acts.new) ≡ capped (A.judged acts.old + judged_obliged (A.occasion acts.old) obligation.now (index + 1) (A.graph acts.old) obligation.now.response)) }
+    ensures done { (w : Work) → OnOk result (capped (A.done acts.new w) ≡ capped (A.done acts.old w + work_obliged w (A.occasion acts.old) obligation.now (index + 1) (A.graph acts.old) obligation.now.response)) }
     ensures short { A.short acts.new ≡ (A.short acts.old || run_wants_memory result) }
     ensures err { OnErr result (IsPartOf (A.occasion acts.old) obligation.now index (A.graph acts.old) (A.graph acts.new)) }
 {
@@ -79,7 +79,7 @@ pub fn run_responses<A: Acts>(
     ensures stopped { IfErr result (IsStop (responded (A.occasion acts.old) (A.graph acts.old))) }
     ensures same { A.occasion acts.new ≡ A.occasion acts.old }
     ensures history { A.history acts.new ≡ A.history acts.old }
-    ensures judged { OnOk result (capped (A.judged acts.new) ≡ capped (A.judged acts.old + judged_responded (A.occasion acts.old) (A.graph acts.old))) }
+    ensures done { (w : Work) → OnOk result (capped (A.done acts.new w) ≡ capped (A.done acts.old w + work_responded w (A.occasion acts.old) (A.graph acts.old))) }
     ensures short { A.short acts.new ≡ (A.short acts.old || run_wants_memory result) }
     ensures err { OnErr result (IsPartway (A.occasion acts.old) (A.graph acts.old) (A.graph acts.new)) }
     ensures none { length places.now ≡ 0 → IsOk result }

@@ -8,7 +8,7 @@ pub record Polled : Type 0 where
   pub out : Option ℕ
   pub stopped : Bool
 
--- there are 64 places, of which the one that is out keeps its own
+-- there are 1,024 places, of which the one that is out keeps its own
 pub record HasPlaces {A : Type 0} (out : Option ℕ) (conns : Slab A) : Type 0 where
-  pub taken : slab_len conns + count_out out ≤ 64
-  pub room : 64 ≤ conns.capacity
+  pub taken : slab_len conns + count_out out ≤ 1024
+  pub room : 1024 ≤ conns.capacity

@@ -1,19 +1,41 @@
 //! The acceptor.
 
+ghost use Rattle.pm_server.specs.Listening.{IsLocal};
+
 use crate::arrivals::Arrival;
 use crate::doors::Door;
 use crate::errors::OpenError;
+use crate::watch::Watch;
 use mio::net::TcpListener;
-use mio::{Events, Interest, Poll, Token};
+use mio::{Events, Interest, Poll, Token, Waker};
+use pm_handoff::Refused;
 use std::alloc::Global;
 use std::io::ErrorKind;
 use std::net::{IpAddr, Ipv4Addr, Net, SocketAddr};
 use std::sync::Wait;
-use std::time::{Clock, Duration};
+use std::time::{Clock, Duration, Instant};
 use std::{io, thread};
 
 // How many milliseconds the acceptor rests where the system gives it no connection, since it may have too many.
 const REST: u64 = 20;
+
+// For how many milliseconds it leaves a worker alone to which as many connections are on their way as may be.
+const PAUSE: u64 = 1;
+
+// How many seconds all workers have to begin.
+const PATIENCE: u64 = 10;
+
+// What the listener's events are told by, and those of the watch.
+const COMES: usize = 0;
+
+const WATCH: usize = 1;
+
+// The address that is listened on: a port of 127.0.0.1.
+fn address(port: u16) -> SocketAddr
+    ensures { IsLocal result port }
+{
+    SocketAddr::new(IpAddr::V4(Ipv4Addr::new(127, 0, 0, 1)), port)
+}
 
 /// Where connections come: a port of 127.0.0.1 that the system listens on.
 pub struct Entrance {
@@ -35,12 +57,11 @@ impl Drop for Entrance {
 impl Entrance {
     /// Listens on the port, or with 0 on one that the system picks.
     pub fn open<N: Net>(net: &N, alloc: Global, port: u16) -> Result<Entrance, OpenError> {
-        let place = SocketAddr::new(IpAddr::V4(Ipv4Addr::LOCALHOST), port);
-        let mut listener = TcpListener::bind(net, place)?;
+        let mut listener = TcpListener::bind(net, address(port))?;
         let poll = Poll::new(net)?;
-        let events = Events::with_capacity(alloc, 1)?;
+        let events = Events::with_capacity(alloc, 2)?;
         poll.registry()
-            .register(&mut listener, Token(0), Interest::READABLE)?;
+            .register(&mut listener, Token(COMES), Interest::READABLE)?;
         Ok(Entrance {
             listener,
             poll,
@@ -53,36 +74,100 @@ impl Entrance {
         Ok(self.listener.local_addr()?.port())
     }
 
-    // Waits until some connection has come, or for a while where the system refuses that.
-    fn wait<R: Clock>(&mut self, rt: &R) {
-        if self.poll.poll(&mut self.events, None).is_err() {
-            thread::sleep(rt, Duration::from_millis(REST));
-        }
+    /// A watch that wakes this acceptor.
+    pub fn watch(&self) -> io::Result<Watch> {
+        let waker = Waker::new(self.poll.registry(), Token(WATCH))?;
+        Ok(Watch::new(waker))
     }
 
-    /// Leaves each connection that comes at one door after another. It goes on for ever.
-    pub fn accept_all<R: Wait + Clock>(&mut self, rt: &R, doors: &mut [Door]) {
+    /// Waits until so many workers have begun, for ten seconds at most, and says whether they have. One that the system
+    /// gives no thread doesn't begin.
+    pub fn await_workers<R: Wait + Clock>(&mut self, rt: &R, watch: &Watch, workers: u64) -> bool {
+        let most = Duration::from_secs(PATIENCE);
+        let Ok(began) = Instant::now(rt) else {
+            return false;
+        };
+        for _ in rt.forever() {
+            if watch.begun() >= workers {
+                return true;
+            }
+            let left = match began.elapsed(rt) {
+                Ok(waited) => most.saturating_sub(waited),
+                Err(_) => Duration::ZERO,
+            };
+            if left == Duration::ZERO || self.poll.poll(&mut self.events, Some(left)).is_err() {
+                return false;
+            }
+        }
+        unreachable!()
+    }
+
+    /// Leaves each connection that comes at the door of the worker with the most room, and closes it where none has any.
+    /// It goes on until the server is at its end, or has nothing to wait by.
+    pub fn accept_all<R: Wait + Clock>(&mut self, rt: &R, watch: &Watch, doors: &mut [Door]) {
         let mut number = 0u64;
         for _ in rt.forever() {
+            if watch.is_over() {
+                return;
+            }
             match self.listener.accept() {
                 Ok((stream, _from)) => {
-                    leave(rt, doors, Arrival { number, stream });
+                    place(rt, watch, doors, Arrival { number, stream });
                     number = number.wrapping_add(1);
                 }
-                Err(error) if error.kind() == ErrorKind::WouldBlock => self.wait(rt),
+                Err(error) if error.kind() == ErrorKind::WouldBlock => {
+                    if self.poll.poll(&mut self.events, None).is_err() {
+                        return;
+                    }
+                }
                 Err(_) => thread::sleep(rt, Duration::from_millis(REST)),
             }
         }
     }
 }
 
-// Leaves a connection at the door whose turn it is. What is written to it is sent at once, where the system does that.
-fn leave<R: Wait>(rt: &R, doors: &mut [Door], arrival: Arrival) {
-    let _ = arrival.stream.set_nodelay(true);
-    let count = doors.len() as u64;
-    if count == 0 {
-        return;
+// The door of the worker with the most room, if one has any.
+fn roomiest(doors: &mut [Door]) -> Option<&mut Door> {
+    let mut best = None;
+    let mut most = 0;
+    for place in 0..doors.len() {
+        let room = doors[place].room();
+        if room > most {
+            most = room;
+            best = Some(place);
+        }
     }
-    let place = (arrival.number % count) as usize;
-    doors[place].leave(rt, arrival);
+    doors.get_mut(best?)
+}
+
+// Leaves a connection at a door. What is written to it is sent at once, where the system does that.
+fn place<R: Wait + Clock>(rt: &R, watch: &Watch, doors: &mut [Door], arrival: Arrival) {
+    let _ = arrival.stream.set_nodelay(true);
+    if let Some(door) = roomiest(doors) {
+        door.take_place();
+        leave(rt, watch, door, arrival);
+    }
+}
+
+// Offers a connection to a worker until it is taken.
+fn leave<R: Wait + Clock>(rt: &R, watch: &Watch, door: &mut Door, arrival: Arrival) {
+    let mut arrival = arrival;
+    for _ in rt.forever() {
+        match door.offer(rt, arrival) {
+            Ok(()) => return,
+            Err(Refused::Full(back)) => arrival = back,
+        }
+        if watch.is_over() {
+            return;
+        }
+        thread::sleep(rt, Duration::from_millis(PAUSE));
+    }
+}
+
+/// Ends the server: no worker begins another round of turns.
+pub fn dismiss(watch: &Watch, doors: &[Door]) {
+    watch.end();
+    for door in doors {
+        door.wake();
+    }
 }

@@ -5,9 +5,12 @@ mod accepting;
 mod arrivals;
 mod doors;
 mod errors;
+mod keys;
 mod poll_feed;
+mod watch;
 
-pub use accepting::Entrance;
+pub use accepting::{Entrance, dismiss};
 pub use doors::{Door, Gateway, open_gateway};
 pub use errors::OpenError;
 pub use poll_feed::PollFeed;
+pub use watch::Watch;

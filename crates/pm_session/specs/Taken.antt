@@ -23,4 +23,3 @@ rest_of w (Some p) = p.1
 pub record LeavesRest (old new : Streams) : Type 0 where
   pub waiting : new.waiting ≡ rest_of old.waiting (cut old.waiting)
   pub output : new.output ≡ old.output
-  pub capacity : new.capacity ≡ old.capacity

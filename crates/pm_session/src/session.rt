@@ -4,6 +4,7 @@ ghost use Rattle.pm_model.specs.Lines.{shape, cut};
 ghost use Rattle.pm_model.specs.Nameable.{IsNameable};
 ghost use Rattle.pm_model.specs.Text.{text, bad_text};
 ghost use Rattle.pm_print.specs.Growth.{reply_most};
+ghost use Rattle.pm_session.specs.Streams.{HasReplyRoom};
 
 use crate::waiting::{LONGEST, ROOM, line_at, part, push_bytes, remove_front};
 use pm_model::{BadLine, LineEvent, Memory, NameOf, Reply};
@@ -11,9 +12,12 @@ use pm_print::{LONGEST_REPLY, print_bad, print_reply};
 use std::alloc::Global;
 use std::marker::Model;
 
+// How many bytes of replies are written together, but for one that is longer.
+const TOGETHER: usize = 16384;
+
 /// What has come and isn't answered yet, and what is to be sent. Contracts see the two lists of
 /// bytes. The input buffer of 16,384 bytes is taken once, whatever comes, and so is the output's:
-/// it doesn't grow as long as replies are appended only where there is room for one.
+/// it grows for a reply that is longer alone, and what it has grown is given back once all is sent.
 pub struct Session {
     waiting: Vec<u8>,
     // The bytes before this place were taken.
@@ -21,6 +25,8 @@ pub struct Session {
     // How many of the bytes that wait are of the last line, which isn't whole yet.
     tail: usize,
     output: Vec<u8>,
+    // The bytes of the output before this place were sent.
+    unsent: usize,
 }
 
 impl Drop for Session {
@@ -30,6 +36,7 @@ impl Drop for Session {
             start: _,
             tail: _,
             output: _,
+            unsent: _,
         } = self;
     }
 }
@@ -52,16 +59,16 @@ impl Session {
     ghost use Rattle.pm_session.specs.contracts.session.Session.{the_row};
     ghost use Rattle.pm_session.specs.Taken.{shown, first_event, LeavesRest};
 
-    /// Nothing waits, and so many bytes of output have their room. Memory where there is none for
-    /// the two buffers.
-    pub fn new(alloc: Global, room: usize) -> Result<Session, Memory>
-        ensures { IfOk result (λ s. s ≡ record { waiting = []; output = []; capacity = room }) }
+    /// Nothing waits. Memory where there is none for the two buffers.
+    pub fn new(alloc: Global) -> Result<Session, Memory>
+        ensures { IfOk result (λ s. s ≡ record { waiting = []; output = [] }) }
     {
         Ok(Session {
             waiting: Vec::with_capacity(alloc, ROOM)?,
             start: 0,
             tail: 0,
-            output: Vec::with_capacity(alloc, room)?,
+            output: Vec::with_capacity(alloc, TOGETHER)?,
+            unsent: 0,
         })
     }
 
@@ -70,7 +77,6 @@ impl Session {
     pub fn push(&mut self, bytes: &[u8]) -> usize
         ensures waiting { self.new.waiting ≡ shape (self.old.waiting ++ take result bytes.now) }
         ensures output { self.new.output ≡ self.old.output }
-        ensures capacity { self.new.capacity ≡ self.old.capacity }
         ensures count { result ≤ length bytes.now }
         ensures all { cut self.old.waiting ≡ None → length bytes.now ≤ 4096 → result ≡ length bytes.now }
         ensures some { cut self.old.waiting ≡ None → 0 < length bytes.now → 0 < result }
@@ -106,16 +112,15 @@ impl Session {
         Some(LineEvent::Line(line))
     }
 
-    /// Whether the output has the capacity for 1,024 bytes more, which any reply fits in but one with a list.
+    /// Whether the output has room for 1,024 bytes more among 16,384, which any reply fits in but one with a list.
     pub fn has_room(&self) -> bool
-        ensures { IsTrue result ↔ length self.now.output + LONGEST_REPLY ≤ self.now.capacity }
+        ensures { IsTrue result ↔ HasReplyRoom self.now.output }
     {
-        self.output.capacity() - self.output.len() >= LONGEST_REPLY
+        self.output.len() - self.unsent <= TOGETHER - LONGEST_REPLY
     }
 
-    /// Appends the line of the reply to the output. On Memory all is as before; it is Ok where the output has
-    /// the capacity for 1,024 bytes more, and for 90 more with each item of a review's list. `names` is as in
-    /// `print_reply`.
+    /// Appends the line of the reply to the output. On Memory all is as before; it is Ok where the output is short of
+    /// 16,384 bytes by 1,024, and by 90 more with each item of a review's list. `names` is as in `print_reply`.
     pub fn reply<N: NameOf>(
         &mut self,
         id: Option<u64>,
@@ -126,10 +131,12 @@ impl Session {
         requires { IsNameable (N.named names.now) reply.now }
         ensures ok { OnOk result (self.new.output ≡ self.old.output ++ text id version (N.name_at names.now) reply.now) }
         ensures err { OnErr result (self.new.output ≡ self.old.output) }
-        ensures fits { length self.old.output + reply_most reply.now ≤ self.old.capacity → IsOk result }
-        ensures capacity { self.old.capacity ≤ self.new.capacity }
+        ensures fits { length self.old.output + reply_most reply.now ≤ TOGETHER → IsOk result }
         ensures waiting { self.new.waiting ≡ self.old.waiting }
     {
+        let unsent = self.unsent;
+        remove_front(&mut self.output, unsent);
+        self.unsent = 0;
         print_reply(id, version, reply, names, &mut self.output)
     }
 
@@ -137,10 +144,12 @@ impl Session {
     pub fn bad(&mut self, id: Option<u64>, version: u64, bad: &BadLine) -> Result<(), Memory>
         ensures ok { OnOk result (self.new.output ≡ self.old.output ++ bad_text id version bad.now) }
         ensures err { OnErr result (self.new.output ≡ self.old.output) }
-        ensures fits { length self.old.output + LONGEST_REPLY ≤ self.old.capacity → IsOk result }
-        ensures capacity { self.old.capacity ≤ self.new.capacity }
+        ensures fits { HasReplyRoom self.old.output → IsOk result }
         ensures waiting { self.new.waiting ≡ self.old.waiting }
     {
+        let unsent = self.unsent;
+        remove_front(&mut self.output, unsent);
+        self.unsent = 0;
         print_bad(id, version, bad, &mut self.output)
     }
 
@@ -155,16 +164,20 @@ impl Session {
     pub fn out(&self) -> &[u8]
         ensures { result.now ≡ self.now.output }
     {
-        &self.output
+        &self.output[self.unsent..]
     }
 
-    /// The first n bytes of the output were sent.
+    /// The first n bytes of the output were sent. Once all are, the output has its 16,384 bytes of memory again.
     pub fn sent(&mut self, n: usize)
         requires { n ≤ length self.old.output }
         ensures output { self.new.output ≡ drop n self.old.output }
-        ensures capacity { self.new.capacity ≡ self.old.capacity }
         ensures waiting { self.new.waiting ≡ self.old.waiting }
     {
-        remove_front(&mut self.output, n);
+        self.unsent += n;
+        if self.unsent == self.output.len() {
+            self.output.truncate(0);
+            self.output.shrink_to(TOGETHER);
+            self.unsent = 0;
+        }
     }
 }

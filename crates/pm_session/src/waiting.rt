@@ -36,6 +36,9 @@ pub(crate) fn remove_front(bytes: &mut Vec<u8>, n: usize)
     ensures items { bytes.new.items ≡ drop n bytes.old.items }
     ensures capacity { vec_capacity bytes.new ≡ vec_capacity bytes.old }
 {
+    if n == 0 {
+        return;
+    }
     let len = bytes.len();
     bytes.as_mut_slice().copy_within(n..len, 0);
     bytes.truncate(len - n);

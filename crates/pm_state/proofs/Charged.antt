@@ -1,5 +1,5 @@
--- What the lists of kept reviews are charged for a change.
-use Rattle.std.proofs.Common.{◌≡◌, ◌+◌, ◌<◌, ◌^◌, ℕ, Bool, true, false, ◌&&◌, List, [], Option, Some, None, is_some, length, IfSome, IsSomeAnd, Ok, refl, sym, ◌∙◌, ap, arith}
+-- What the lists of kept reviews are charged for a change, and what is added to the count of rows.
+use Rattle.std.proofs.Common.{◌≡◌, ◌+◌, ◌<◌, ◌^◌, ℕ, Bool, true, false, ◌&&◌, min, List, [], Option, Some, None, is_some, length, IfSome, IsSomeAnd, Ok, refl, sym, ◌∙◌, ap, arith}
 use Rattle.std.specs.List.{list_any}
 use Rattle.pm_model.specs.Containment.{contained}
 use Rattle.pm_model.specs.Effect.{effect}
@@ -102,3 +102,13 @@ if-charged None taken lists G H c asked f named made is same are charged M some 
 if-charged (Some L) taken lists G H c asked f named made is same are charged M some =
     let adds : IsCharged L M H asked = rw (some, same) at charged in
     ap asked_of some ∙ adds (record { before = G; change = c; formed = f; named = named; led = made; listed = are; asked = is })
+
+-- ---- rows
+
+-- a count and the rows of one change more make the count of all
+pub rows-counted : (before more after sum by all rows : ℕ) → before ≡ capped sum → more ≡ rows → by ≡ rows → all ≡ sum + by →
+    after ≡ min (before + more) 18446744073709551615 → after ≡ capped all
+rows-counted before more after sum by all rows so adds is whole added = omega (arith, so, adds, is, whole, added)
+
+pub rows-added : (before more after rows : ℕ) → more ≡ rows → after ≡ min (before + more) 18446744073709551615 → after ≡ capped (before + rows)
+rows-added before more after rows adds added = omega (arith, adds, added)

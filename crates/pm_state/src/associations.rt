@@ -7,6 +7,7 @@ ghost use Rattle.pm_model.specs.Formed.{IsNamed, IsLive};
 ghost use Rattle.pm_state.specs.Changes.{Changes, Checks};
 ghost use Rattle.pm_state.specs.Shown.{graph_of};
 
+use crate::done::Done;
 use crate::tables::Tables;
 use pm_model::{Change, ChangeError, ElementId, Kind, Made, Refusal, Rights};
 
@@ -35,7 +36,7 @@ impl Tables {
         ua: ElementId,
         rights: Rights,
         at: ElementId,
-    ) -> Result<Made, ChangeError>
+    ) -> Result<Done, ChangeError>
         requires { IsNamed (graph_of self.old) (Change.Associate ua rights at) }
         ensures { Changes self.old self.new (Change.Associate ua rights at) result }
     {
@@ -43,7 +44,7 @@ impl Tables {
             return Err(ChangeError::Refused(Refusal::BadKinds));
         }
         match self.assoc.associate(ua, rights, at) {
-            Ok(()) => Ok(Made::Nothing),
+            Ok(()) => Ok(Done::without_rows(Made::Nothing)),
             Err(error) => Err(pm_assoc::change_error(error)),
         }
     }
@@ -67,12 +68,12 @@ impl Tables {
         }
     }
 
-    pub(crate) fn dissociate(&mut self, ua: ElementId, at: ElementId) -> Result<Made, ChangeError>
+    pub(crate) fn dissociate(&mut self, ua: ElementId, at: ElementId) -> Result<Done, ChangeError>
         requires { IsNamed (graph_of self.old) (Change.Dissociate ua at) }
         ensures { Changes self.old self.new (Change.Dissociate ua at) result }
     {
         match self.assoc.dissociate(ua, at) {
-            Ok(()) => Ok(Made::Nothing),
+            Ok(()) => Ok(Done::without_rows(Made::Nothing)),
             Err(error) => Err(pm_assoc::change_error(error)),
         }
     }

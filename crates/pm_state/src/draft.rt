@@ -7,8 +7,8 @@ ghost use Rattle.pm_model.specs.History.{IsAnswered, IsReplayed, replay};
 ghost use Rattle.pm_model.specs.KeptReviews.{KeptReview, is_kept_of};
 ghost use Rattle.pm_model.specs.Made.{made_by};
 ghost use Rattle.pm_model.specs.Reviews.{list_of};
-ghost use Rattle.pm_affect.specs.Counting.{capped, judged_for, judged_in};
-ghost use Rattle.pm_state.specs.Drafted.{machine_in};
+ghost use Rattle.pm_affect.specs.Counting.{Work, capped, work_for, work_in};
+ghost use Rattle.pm_state.specs.Drafted.{done_in, machine_in};
 ghost use Rattle.pm_state.specs.Leaving.{AreNamesKept};
 ghost use Rattle.pm_state.specs.Listing.{AreListed};
 ghost use Rattle.pm_state.specs.Repairs.{IsLeft, drops_review};
@@ -31,6 +31,8 @@ pub struct Draft {
     /// None once memory was wanting for them.
     lists: Option<KeptLists>,
     history: History,
+    /// How many rows of containment were written, up to 2^64 - 1.
+    rows: u64,
     /// Whether some element was deleted in it.
     deleted: bool,
 }
@@ -41,6 +43,7 @@ impl Drop for Draft {
             graph: _,
             lists: _,
             history: _,
+            rows: _,
             deleted: _,
         } = self;
     }
@@ -59,16 +62,17 @@ impl Model for Draft {
 }
 
 impl Draft {
-    pub(crate) fn begun(graph: Graph, lists: KeptLists, history: History) -> Draft
+    pub(crate) fn begun(graph: Graph, lists: KeptLists, history: History, rows: u64) -> Draft
         requires replayed { IsReplayed (record { graph = graph; history = history.entries }) }
         requires limit { history.limit ≡ longest_history }
         requires listed { AreListed lists graph }
-        ensures { result ≡ record { graph = graph; history = history.entries; asked = lists.asked; whole = true } }
+        ensures { result ≡ record { graph = graph; history = history.entries; asked = lists.asked; written = rows; whole = true } }
     {
         Draft {
             graph,
             lists: Some(lists),
             history,
+            rows,
             deleted: false,
         }
     }
@@ -126,7 +130,7 @@ impl Draft {
         ensures refused { IfErr result (IsCause (refusal self.old.graph change.now)) }
         ensures err { IfErr result (IsLeft self.old self.new change.now) }
         ensures history { self.new.history ≡ self.old.history }
-        ensures asked { OnOk result (self.new.asked ≡ capped (self.old.asked + judged_for self.old.graph change.now)) }
+        ensures done { (w : Work) → OnOk result (done_in self.new w ≡ capped (done_in self.old w + work_for w self.old.graph change.now)) }
         ensures whole { OnOk result (self.new.whole ≡ true) }
         ensures free { drops_review change.now ≡ true → self.old.whole ≡ true → IsOk result }
     {
@@ -135,16 +139,17 @@ impl Draft {
             Ok(asked) => asked,
             Err(Memory) => return Err(ChangeError::Memory),
         };
-        let made = match self.graph.change(change) {
-            Ok(made) => made,
+        let done = match self.graph.change(change) {
+            Ok(done) => done,
             Err(ChangeError::Refused(why)) => return Err(ChangeError::Refused(why)),
             Err(ChangeError::Memory) => return Err(ChangeError::Memory),
         };
+        self.rows = self.rows.saturating_add(done.rows);
         let more = deletes(change);
         self.deleted = self.deleted || more;
         self.lists = repaired(self.lists.take(), &self.graph, asked);
         match self.lists {
-            Some(_) => Ok(made),
+            Some(_) => Ok(done.made),
             None => Err(ChangeError::Memory),
         }
     }
@@ -154,17 +159,17 @@ impl Draft {
         requires { place < length self.old.graph.kept }
         ensures graph { (k : KeptReview) → slice_get self.old.graph.kept place ≡ Some k → self.new.graph ≡ record self.old.graph { kept = slice_set self.old.graph.kept place (record k { at = version; changed = changes }) } }
         ensures history { self.new.history ≡ self.old.history }
-        ensures asked { self.new.asked ≡ self.old.asked }
+        ensures done { (w : Work) → done_in self.new w ≡ done_in self.old w }
         ensures whole { self.new.whole ≡ self.old.whole }
     {
         self.graph.set_last(place, version, changes);
     }
 
     /// The state with this graph, and the entry at the end of the history. The graph must be what the
-    /// machine's answer to the entry makes, and so must be how many rights were judged. `Full` only where the history has 262,144 entries; the other error is `Memory`.
+    /// machine's answer to the entry makes, and so must be how much work it was. `Full` only where the history has 262,144 entries; the other error is `Memory`.
     pub fn finish(self, entry: Entry) -> Result<State, HistoryError>
         requires answered { IsAnswered (machine_in self) entry.request }
-        requires asked { capped self.asked ≡ capped (judged_in (self.history ++ entry ∷ [])) }
+        requires done { (w : Work) → capped (done_in self w) ≡ capped (work_in w (self.history ++ entry ∷ [])) }
         ensures ok { IfOk result (λ s. s ≡ record { graph = self.graph; history = self.history ++ entry ∷ [] }) }
         ensures room { OnOk result (length self.history < longest_history) }
         ensures full { IfErr result (λ e. e ≡ HistoryError.Full → longest_history ≤ length self.history) }
@@ -173,6 +178,7 @@ impl Draft {
             graph,
             lists,
             mut history,
+            rows,
             deleted: _,
         } = self;
         let Some(lists) = lists else {
@@ -183,6 +189,6 @@ impl Draft {
             Ok(()) => {}
             Err(error) => return Err(error),
         }
-        Ok(State::joined(graph, lists, history))
+        Ok(State::joined(graph, lists, history, rows))
     }
 }

@@ -11,6 +11,7 @@ ghost use Rattle.pm_state.specs.Changes.{Changes, Checks};
 ghost use Rattle.pm_state.specs.Shown.{graph_of};
 
 use crate::classes::{place, take_out};
+use crate::done::Done;
 use crate::tables::Tables;
 use pm_model::{Change, ChangeError, ElementId, Kind, Made, Memory, Name, Refusal};
 
@@ -28,7 +29,7 @@ fn is_builtin_element(id: ElementId) -> bool
 
 impl Tables {
     // A new policy class stands in the list of classes first, which can be taken back where the table then has no memory.
-    fn create_class(&mut self, id: ElementId, name: Name) -> Result<Made, ChangeError>
+    fn create_class(&mut self, id: ElementId, name: Name) -> Result<Done, ChangeError>
         requires { IsNamed (graph_of self.old) (Change.Create id Kind.Pc name None) }
         ensures { Changes self.old self.new (Change.Create id Kind.Pc name None) result }
     {
@@ -41,7 +42,10 @@ impl Tables {
             Err(Memory) => return Err(ChangeError::Memory),
         };
         match self.diagram.create(Kind::Pc, name, None) {
-            Ok(number) => Ok(Made::Element(number)),
+            Ok(number) => Ok(Done {
+                made: Made::Element(number),
+                rows: 1,
+            }),
             Err(error) => {
                 self.classes.remove(place);
                 Err(pm_elements::change_error(error))
@@ -56,7 +60,7 @@ impl Tables {
         kind: Kind,
         name: Name,
         into: ElementId,
-    ) -> Result<Made, ChangeError>
+    ) -> Result<Done, ChangeError>
         requires { IsNamed (graph_of self.old) (Change.Create id kind name (Some into)) }
         ensures { Changes self.old self.new (Change.Create id kind name (Some into)) result }
     {
@@ -64,7 +68,10 @@ impl Tables {
             return Err(ChangeError::Refused(Refusal::BadKinds));
         }
         match self.diagram.create(kind, name, Some(into)) {
-            Ok(number) => Ok(Made::Element(number)),
+            Ok(number) => Ok(Done {
+                made: Made::Element(number),
+                rows: 2,
+            }),
             Err(error) => Err(pm_elements::change_error(error)),
         }
     }
@@ -76,7 +83,7 @@ impl Tables {
         kind: Kind,
         name: Name,
         into: Option<ElementId>,
-    ) -> Result<Made, ChangeError>
+    ) -> Result<Done, ChangeError>
         requires { IsNamed (graph_of self.old) (Change.Create id kind name into) }
         ensures { Changes self.old self.new (Change.Create id kind name into) result }
     {
@@ -123,7 +130,7 @@ impl Tables {
     }
 
     /// It looks at each association, prohibition, obligation, session and kept review, and may want memory for its row.
-    pub(crate) fn delete(&mut self, id: ElementId) -> Result<Made, ChangeError>
+    pub(crate) fn delete(&mut self, id: ElementId) -> Result<Done, ChangeError>
         requires { IsNamed (graph_of self.old) (Change.Delete id) }
         ensures { Changes self.old self.new (Change.Delete id) result }
     {
@@ -134,7 +141,7 @@ impl Tables {
         match self.diagram.remove(id) {
             Ok(()) => {
                 take_out(&mut self.classes, id);
-                Ok(Made::Nothing)
+                Ok(Done::without_rows(Made::Nothing))
             }
             Err(error) => Err(pm_elements::change_error(error)),
         }
@@ -166,18 +173,21 @@ impl Tables {
         }
     }
 
-    pub(crate) fn assign(&mut self, from: ElementId, to: ElementId) -> Result<Made, ChangeError>
+    pub(crate) fn assign(&mut self, from: ElementId, to: ElementId) -> Result<Done, ChangeError>
         requires { IsNamed (graph_of self.old) (Change.Assign from to) }
         ensures { Changes self.old self.new (Change.Assign from to) result }
     {
         match self.diagram.assign(from, to) {
-            Ok(()) => Ok(Made::Nothing),
+            Ok(rows) => Ok(Done {
+                made: Made::Nothing,
+                rows,
+            }),
             Err(error) => Err(pm_elements::change_error(error)),
         }
     }
 
     /// It may want memory for the rows of what is contained in the element.
-    pub(crate) fn deassign(&mut self, from: ElementId, to: ElementId) -> Result<Made, ChangeError>
+    pub(crate) fn deassign(&mut self, from: ElementId, to: ElementId) -> Result<Done, ChangeError>
         requires { IsNamed (graph_of self.old) (Change.Deassign from to) }
         ensures { Changes self.old self.new (Change.Deassign from to) result }
     {
@@ -185,7 +195,10 @@ impl Tables {
             return Err(ChangeError::Refused(Refusal::Builtin));
         }
         match self.diagram.deassign(from, to) {
-            Ok(()) => Ok(Made::Nothing),
+            Ok(rows) => Ok(Done {
+                made: Made::Nothing,
+                rows,
+            }),
             Err(error) => Err(pm_elements::change_error(error)),
         }
     }

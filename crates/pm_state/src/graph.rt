@@ -6,17 +6,20 @@ ghost use Rattle.pm_model.specs.Formed.{IsWellFormed, IsNamed};
 ghost use Rattle.pm_model.specs.KeptReviews.{KeptReview};
 ghost use Rattle.pm_model.specs.Made.{made_by};
 ghost use Rattle.pm_model.specs.RightSet.{bit_named, right_bits};
+ghost use Rattle.pm_affect.specs.Counting.{rows_of};
 ghost use Rattle.pm_state.specs.Repairs.{drops_review};
+ghost use Rattle.pm_state.specs.declared.done.Done.{Done};
 ghost use Rattle.pm_reach.specs.Changes.{TellContainment};
 ghost use Rattle.pm_reach.specs.Rows.{has};
 
+use crate::done::Done;
 use crate::tables::Tables;
 use pm_assoc::Assoc;
 use pm_deny::Deny;
 use pm_diagram::{Containment, Diagram};
 use pm_elements::Elements;
 use pm_kept::KeptReviews;
-use pm_model::{Change, ChangeError, ChangeList, ClassList, ElementId, Made, Memory, Name, NameOf};
+use pm_model::{Change, ChangeError, ChangeList, ClassList, ElementId, Memory, Name, NameOf};
 use pm_oblig::Obligations;
 use pm_procs::Procs;
 use pm_reach::ReachRows;
@@ -188,20 +191,21 @@ impl Graph {
         self.tables.check(change)
     }
 
-    /// Makes one change, or tells the first precondition that isn't met. To drop a review takes no memory.
-    pub(crate) fn change(&mut self, change: &Change) -> Result<Made, ChangeError>
+    /// Makes one change, and counts the rows that it writes, or tells the first precondition that isn't met. To drop a review takes no memory.
+    pub(crate) fn change(&mut self, change: &Change) -> Result<Done, ChangeError>
         requires { IsNamed self.old change.now }
         ensures ok { OnOk result (effect self.old change.now ≡ Ok self.new) }
-        ensures made { IfOk result (λ m. m ≡ made_by self.old change.now) }
+        ensures made { IfOk result (λ (d : Done). d.made ≡ made_by self.old change.now) }
+        ensures rows { IfOk result (λ (d : Done). d.rows ≡ rows_of self.old change.now) }
         ensures refused { IfErr result (IsCause (refusal self.old change.now)) }
         ensures err { OnErr result (self.new ≡ self.old) }
         ensures free { drops_review change.now ≡ true → IsOk result }
     {
-        let made = match self.tables.change(change) {
-            Ok(made) => made,
+        let done = match self.tables.change(change) {
+            Ok(done) => done,
             Err(error) => return Err(error),
         };
-        Ok(made)
+        Ok(done)
     }
 
     /// Makes this the last change of the kept review at a place. It takes no memory.

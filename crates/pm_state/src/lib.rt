@@ -4,6 +4,7 @@
 mod asking;
 mod associations;
 mod classes;
+mod done;
 mod draft;
 mod elements;
 mod graph;

@@ -5,6 +5,7 @@ ghost use Rattle.pm_model.specs.State.{element_at};
 ghost use Rattle.pm_model.specs.Effect.{has_kind, is_actor_kind, may_watch};
 ghost use Rattle.pm_state.specs.Changes.{Changes, Checks};
 
+use crate::done::Done;
 use crate::tables::Tables;
 use pm_model::{Change, ChangeError, ElementId, Kind, Made, Memory, Obligation, Refusal};
 
@@ -35,7 +36,7 @@ impl Tables {
         }
     }
 
-    pub(crate) fn oblige(&mut self, item: &Obligation) -> Result<Made, ChangeError>
+    pub(crate) fn oblige(&mut self, item: &Obligation) -> Result<Done, ChangeError>
         ensures { Changes self.old self.new (Change.Oblige item.now) result }
     {
         if !self.may_watch(item.pattern.user) {
@@ -46,7 +47,7 @@ impl Tables {
             Err(Memory) => return Err(ChangeError::Memory),
         };
         match self.oblig.oblige(item) {
-            Ok(()) => Ok(Made::Nothing),
+            Ok(()) => Ok(Done::without_rows(Made::Nothing)),
             Err(error) => Err(pm_oblig::change_error(error)),
         }
     }
@@ -63,12 +64,12 @@ impl Tables {
         }
     }
 
-    pub(crate) fn withdraw(&mut self, index: u32) -> Result<Made, ChangeError>
+    pub(crate) fn withdraw(&mut self, index: u32) -> Result<Done, ChangeError>
         requires { index < length self.old.oblig.items }
         ensures { Changes self.old self.new (Change.Withdraw index) result }
     {
         match self.oblig.withdraw_at(index) {
-            Ok(_withdrawn) => Ok(Made::Nothing),
+            Ok(_withdrawn) => Ok(Done::without_rows(Made::Nothing)),
             Err(Memory) => Err(ChangeError::Memory),
         }
     }

@@ -6,6 +6,7 @@ ghost use Rattle.pm_model.specs.State.{element_at};
 ghost use Rattle.pm_model.specs.Effect.{has_kind, has_subject_kind, is_place, is_place_kind, is_ua_kind, may_prohibit};
 ghost use Rattle.pm_state.specs.Changes.{Changes, Checks};
 
+use crate::done::Done;
 use crate::tables::Tables;
 use pm_model::{
     Change, ChangeError, ElementId, Kind, Made, Memory, Name, PlaceList, Prohibition, Refusal,
@@ -61,7 +62,7 @@ impl Tables {
             && self.are_places(&item.exc)
     }
 
-    pub(crate) fn prohibit(&mut self, item: &Prohibition) -> Result<Made, ChangeError>
+    pub(crate) fn prohibit(&mut self, item: &Prohibition) -> Result<Done, ChangeError>
         ensures { Changes self.old self.new (Change.Prohibit item.now) result }
     {
         if !self.may_prohibit(item) {
@@ -72,7 +73,7 @@ impl Tables {
             Err(Memory) => return Err(ChangeError::Memory),
         };
         match self.deny.prohibit(item) {
-            Ok(()) => Ok(Made::Nothing),
+            Ok(()) => Ok(Done::without_rows(Made::Nothing)),
             Err(error) => Err(pm_deny::change_error(error)),
         }
     }
@@ -89,21 +90,21 @@ impl Tables {
         }
     }
 
-    pub(crate) fn lift(&mut self, index: u32) -> Result<Made, ChangeError>
+    pub(crate) fn lift(&mut self, index: u32) -> Result<Done, ChangeError>
         requires { index < length self.old.deny.items }
         ensures { Changes self.old self.new (Change.Lift index) result }
     {
         match self.deny.lift_at(index) {
-            Ok(_lifted) => Ok(Made::Nothing),
+            Ok(_lifted) => Ok(Done::without_rows(Made::Nothing)),
             Err(Memory) => Err(ChangeError::Memory),
         }
     }
 
-    pub(crate) fn define_right(&mut self, name: Name) -> Result<Made, ChangeError>
+    pub(crate) fn define_right(&mut self, name: Name) -> Result<Done, ChangeError>
         ensures { Changes self.old self.new (Change.DefineRight name) result }
     {
         match self.rights.define(name) {
-            Ok(()) => Ok(Made::Nothing),
+            Ok(()) => Ok(Done::without_rows(Made::Nothing)),
             Err(error) => Err(pm_rights::change_error(error)),
         }
     }

@@ -4,6 +4,7 @@ ghost use Rattle.std.specs.Prelude.{◌≡◌, IsOk};
 ghost use Rattle.pm_model.specs.Effect.{may_keep};
 ghost use Rattle.pm_state.specs.Changes.{Changes, Checks};
 
+use crate::done::Done;
 use crate::tables::Tables;
 use pm_model::{Change, ChangeError, ElementId, Made, Refusal, ReviewOf};
 
@@ -17,14 +18,14 @@ impl Tables {
         }
     }
 
-    pub(crate) fn keep(&mut self, of: ReviewOf<ElementId>) -> Result<Made, ChangeError>
+    pub(crate) fn keep(&mut self, of: ReviewOf<ElementId>) -> Result<Done, ChangeError>
         ensures { Changes self.old self.new (Change.Keep of) result }
     {
         if !self.may_keep(&of) {
             return Err(ChangeError::Refused(Refusal::BadKinds));
         }
         match self.kept.keep(of) {
-            Ok(number) => Ok(Made::Review(number)),
+            Ok(number) => Ok(Done::without_rows(Made::Review(number))),
             Err(error) => Err(pm_kept::change_error(error)),
         }
     }
@@ -42,11 +43,11 @@ impl Tables {
     }
 
     /// It takes no memory, and is never refused.
-    pub(crate) fn drop_review(&mut self, number: u32) -> Result<Made, ChangeError>
+    pub(crate) fn drop_review(&mut self, number: u32) -> Result<Done, ChangeError>
         ensures changes { Changes self.old self.new (Change.DropReview number) result }
         ensures free { IsOk result }
     {
         self.kept.drop_review(number);
-        Ok(Made::Nothing)
+        Ok(Done::without_rows(Made::Nothing))
     }
 }

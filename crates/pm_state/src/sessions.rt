@@ -7,6 +7,7 @@ ghost use Rattle.pm_model.specs.Formed.{IsNamed};
 ghost use Rattle.pm_state.specs.Changes.{Changes, Checks};
 ghost use Rattle.pm_state.specs.Shown.{graph_of};
 
+use crate::done::Done;
 use crate::tables::Tables;
 use pm_model::{Change, ChangeError, ElementId, Kind, Made, Memory, Refusal};
 use pm_procs::change_error;
@@ -20,7 +21,7 @@ impl Tables {
         elements.live(id) && matches!(elements.kind(id), Kind::User)
     }
 
-    pub(crate) fn open_session(&mut self, user: ElementId) -> Result<Made, ChangeError>
+    pub(crate) fn open_session(&mut self, user: ElementId) -> Result<Done, ChangeError>
         requires { IsNamed (graph_of self.old) (Change.OpenSession user) }
         ensures { Changes self.old self.new (Change.OpenSession user) result }
     {
@@ -28,7 +29,7 @@ impl Tables {
             return Err(ChangeError::Refused(Refusal::BadKinds));
         }
         match self.procs.open_session(user) {
-            Ok(number) => Ok(Made::Session(number)),
+            Ok(number) => Ok(Done::without_rows(Made::Session(number))),
             Err(error) => Err(change_error(error, Refusal::UnknownSession)),
         }
     }
@@ -46,7 +47,7 @@ impl Tables {
         }
     }
 
-    pub(crate) fn close_session(&mut self, session: u32) -> Result<Made, ChangeError>
+    pub(crate) fn close_session(&mut self, session: u32) -> Result<Done, ChangeError>
         ensures { Changes self.old self.new (Change.CloseSession session) result }
     {
         match self.check_close_session(session) {
@@ -64,7 +65,7 @@ impl Tables {
         match self.procs.close_session(session) {
             Ok(()) => {
                 self.deny.lift_processes(ended.as_slice());
-                Ok(Made::Nothing)
+                Ok(Done::without_rows(Made::Nothing))
             }
             Err(error) => Err(change_error(error, Refusal::UnknownSession)),
         }
@@ -79,12 +80,12 @@ impl Tables {
         }
     }
 
-    pub(crate) fn start_process(&mut self, session: u32) -> Result<Made, ChangeError>
+    pub(crate) fn start_process(&mut self, session: u32) -> Result<Done, ChangeError>
         requires { IsNamed (graph_of self.old) (Change.StartProcess session) }
         ensures { Changes self.old self.new (Change.StartProcess session) result }
     {
         match self.procs.start_process(session) {
-            Ok(number) => Ok(Made::Process(number)),
+            Ok(number) => Ok(Done::without_rows(Made::Process(number))),
             Err(error) => Err(change_error(error, Refusal::UnknownSession)),
         }
     }
@@ -98,7 +99,7 @@ impl Tables {
         }
     }
 
-    pub(crate) fn end_process(&mut self, process: u32) -> Result<Made, ChangeError>
+    pub(crate) fn end_process(&mut self, process: u32) -> Result<Done, ChangeError>
         ensures { Changes self.old self.new (Change.EndProcess process) result }
     {
         match self.check_end_process(process) {
@@ -113,7 +114,7 @@ impl Tables {
         match self.procs.end_process(process) {
             Ok(()) => {
                 self.deny.lift_processes(&ended);
-                Ok(Made::Nothing)
+                Ok(Done::without_rows(Made::Nothing))
             }
             Err(error) => Err(change_error(error, Refusal::UnknownProcess)),
         }

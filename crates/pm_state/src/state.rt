@@ -10,7 +10,7 @@ ghost use Rattle.pm_model.specs.Made.{made_by};
 ghost use Rattle.pm_model.specs.Reviews.{list_of};
 ghost use Rattle.pm_laws.specs.Meaning.{AreGivenBy};
 ghost use Rattle.pm_affect.specs.Affected.{is_of_prohibition};
-ghost use Rattle.pm_affect.specs.Counting.{capped, judged_by, judged_for, judged_in};
+ghost use Rattle.pm_affect.specs.Counting.{Work, Judged, Written, capped, work_by, work_for, work_in};
 ghost use Rattle.pm_state.specs.Leaving.{LeavesReviews};
 ghost use Rattle.pm_state.specs.Listing.{AreListed};
 
@@ -34,6 +34,8 @@ pub struct State {
     graph: Graph,
     lists: KeptLists,
     history: History,
+    /// How many rows of containment were written, up to 2^64 - 1.
+    rows: u64,
 }
 
 impl Drop for State {
@@ -42,6 +44,7 @@ impl Drop for State {
             graph: _,
             lists: _,
             history: _,
+            rows: _,
         } = self;
     }
 }
@@ -79,20 +82,23 @@ impl State {
             graph,
             lists,
             history,
+            rows: 0,
         })
     }
 
-    pub(crate) fn joined(graph: Graph, lists: KeptLists, history: History) -> State
+    pub(crate) fn joined(graph: Graph, lists: KeptLists, history: History, rows: u64) -> State
         requires replayed { IsReplayed (record { graph = graph; history = history.entries }) }
         requires limit { history.limit ≡ longest_history }
         requires listed { AreListed lists graph }
-        requires asked { lists.asked ≡ capped (judged_in history.entries) }
+        requires asked { lists.asked ≡ capped (work_in Judged history.entries) }
+        requires written { rows ≡ capped (work_in Written history.entries) }
         ensures { result ≡ record { graph = graph; history = history.entries } }
     {
         State {
             graph,
             lists,
             history,
+            rows,
         }
     }
 
@@ -141,9 +147,18 @@ impl State {
     /// request or of a response to it, one for each pair of a user and an element that lies in the region of the change and in
     /// the scope of a review that is kept then. A review that is made or dropped asks for none.
     pub fn asked(&self) -> u64
-        ensures { result ≡ capped (judged_in self.now.history) }
+        ensures { result ≡ capped (work_in Judged self.now.history) }
     {
         self.lists.asked()
+    }
+
+    /// How many rows of containment all entries up to this version have written, up to 2^64 - 1: for each change, of a request or
+    /// of a response to it, the row of an element that is made, once more where it is made in a container; and those of all that is
+    /// contained in an element that is assigned, or whose assignment is taken away.
+    pub fn written(&self) -> u64
+        ensures { result ≡ capped (work_in Written self.now.history) }
+    {
+        self.rows
     }
 
     /// What each state keeps: its history is legal, and it is the replay of its history.
@@ -193,7 +208,7 @@ impl State {
     pub fn enter(&mut self, change: &Change, entry: Entry) -> Result<Made, ChangeError>
         requires named { IsNamed self.old.graph change.now }
         requires asked { proposed (state_of self.old) entry.request ≡ entered (state_of self.old) None change.now }
-        requires judged { judged_by (state_of self.old) entry.request ≡ judged_for self.old.graph change.now }
+        requires work { (w : Work) → work_by w (state_of self.old) entry.request ≡ work_for w self.old.graph change.now }
         requires leaves { LeavesReviews self.old.graph change.now }
         ensures ok { OnOk result (effect self.old.graph change.now ≡ Ok self.new.graph) }
         ensures history { OnOk result (self.new.history ≡ self.old.history ++ entry ∷ []) }
@@ -208,7 +223,10 @@ impl State {
             Err(HistoryError::Memory) => return Err(ChangeError::Memory),
         }
         match self.graph.change(change) {
-            Ok(made) => Ok(made),
+            Ok(done) => {
+                self.rows = self.rows.saturating_add(done.rows);
+                Ok(done.made)
+            }
             Err(error) => {
                 self.history.take_back();
                 Err(error)
@@ -238,16 +256,17 @@ impl State {
             graph,
             lists,
             history,
+            rows: self.rows,
         })
     }
 
     /// A copy in which one change after another can be made, to be one entry together.
     pub fn draft(&self) -> Result<Draft, Memory>
-        ensures { IfOk result (λ d. d ≡ record { graph = self.now.graph; history = self.now.history; asked = capped (judged_in self.now.history); whole = true }) }
+        ensures { IfOk result (λ d. d ≡ record { graph = self.now.graph; history = self.now.history; asked = capped (work_in Judged self.now.history); written = capped (work_in Written self.now.history); whole = true }) }
     {
         let graph = self.graph.copy()?;
         let lists = self.lists.copy()?;
         let history = self.history.copy()?;
-        Ok(Draft::begun(graph, lists, history))
+        Ok(Draft::begun(graph, lists, history, self.rows))
     }
 }

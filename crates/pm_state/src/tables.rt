@@ -5,11 +5,12 @@ ghost use Rattle.pm_state.specs.Changes.{Changes, Checks, IsSame};
 ghost use Rattle.pm_state.specs.Repairs.{drops_review};
 ghost use Rattle.pm_state.specs.Shown.{graph_of};
 
+use crate::done::Done;
 use pm_assoc::Assoc;
 use pm_deny::Deny;
 use pm_diagram::Diagram;
 use pm_kept::KeptReviews;
-use pm_model::{Change, ChangeError, ClassList, Made, Memory};
+use pm_model::{Change, ChangeError, ClassList, Memory};
 use pm_oblig::Obligations;
 use pm_procs::Procs;
 use pm_rights::RightNames;
@@ -71,8 +72,8 @@ impl Tables {
         })
     }
 
-    /// Makes one change, or tells the first precondition that isn't met. To drop a review takes no memory.
-    pub(crate) fn change(&mut self, change: &Change) -> Result<Made, ChangeError>
+    /// Makes one change, and counts the rows that it writes, or tells the first precondition that isn't met. To drop a review takes no memory.
+    pub(crate) fn change(&mut self, change: &Change) -> Result<Done, ChangeError>
         requires { IsNamed (graph_of self.old) change.now }
         ensures changes { Changes self.old self.new change.now result }
         ensures free { drops_review change.now ≡ true → IsOk result }

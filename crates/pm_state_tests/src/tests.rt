@@ -4,7 +4,8 @@
 ghost use Rattle.std.specs.Prelude.{◌≡◌, ◌+◌, [], None, Ok};
 ghost use Rattle.pm_model.specs.Effect.{effect};
 ghost use Rattle.pm_model.specs.Formed.{AreNamed, IsLive, IsNamed};
-ghost use Rattle.pm_affect.specs.Counting.{capped, judged_for};
+ghost use Rattle.pm_affect.specs.Counting.{Work, capped, work_for};
+ghost use Rattle.pm_state.specs.Drafted.{done_in};
 
 use pm_model::{
     Bars, Body, Change, ChangeError, ChangeList, ElementId, Entry, Grows, Kind, Made, Name, NameOf,
@@ -101,10 +102,11 @@ fn start_drafted(rt: &impl Abort, draft: &mut Draft)
     requires { IsNamed draft.old.graph (Change.StartProcess 0) }
     ensures graph { effect draft.old.graph (Change.StartProcess 0) ≡ Ok draft.new.graph }
     ensures history { draft.new.history ≡ draft.old.history }
-    ensures asked { draft.new.asked ≡ capped (draft.old.asked + judged_for draft.old.graph (Change.StartProcess 0)) }
+    ensures done { (w : Work) → done_in draft.new w ≡ capped (done_in draft.old w + work_for w draft.old.graph (Change.StartProcess 0)) }
 {
     let change = Change::StartProcess { session: 0 };
-    assert!(rt; draft.change(&change).is_ok());
+    let started = draft.change(&change).ok();
+    started.expect(rt, "a process");
 }
 
 /// The state once a process is started in a draft, where no review is kept.

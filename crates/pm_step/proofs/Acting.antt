@@ -1,10 +1,10 @@
 -- An action in its turn, in a graph that has the obligations at the places.
-use Rattle.std.proofs.Common.{◌≡◌, ◌-◌, ◌<◌, ℕ, List, length, Some, Result, Ok, Err, OnOk, IfErr, inl, inr, slice_get, All, Contains, refl, sym, ◌∙◌, ap, subst, arith}
+use Rattle.std.proofs.Common.{◌≡◌, ◌-◌, ◌<◌, ℕ, List, length, Some, Result, Ok, Err, OnOk, IfErr, inl, inr, slice_get, All, Contains, refl, sym, ◌∙◌, subst, arith}
 use Rattle.std.proofs.lemmas.List.Elements.{All-contains}
 use Rattle.std.proofs.lemmas.Option.{slice_get_within, same_Some}
 use Rattle.pm_model.specs.State.{Graph}
 use Rattle.pm_model.specs.Responses.{acted}
-use Rattle.pm_affect.specs.Counting.{judged_acted}
+use Rattle.pm_affect.specs.Counting.{Work, work_acted}
 use Rattle.pm_model.specs.Formed.{IsUser, IsWellFormed}
 use Rattle.pm_model.specs.declared.actions.Action.{Action}
 use Rattle.pm_model.specs.declared.events.EventNames.{EventNames}
@@ -14,7 +14,7 @@ use Rattle.pm_laws.proofs.Items.{get-contains}
 use Rattle.pm_laws.proofs.Live.{author_is}
 use Rattle.pm_laws.proofs.Responding.{responses_keep_obligations}
 use Rattle.pm_runner.specs.Outcomes.{IsLeft}
-use Rattle.pm_runner.specs.Turns.{Occasion, IsTurn, acted_at, judged_acted_at}
+use Rattle.pm_runner.specs.Turns.{Occasion, IsTurn, acted_at, work_acted_at}
 use Rattle.pm_runner.specs.declared.errors.ActError.{ActError}
 use Rattle.pm_runner.specs.declared.errors.ActError.TheVariants.{Memory, Refused}
 use Rattle.pm_runner.proofs.Places.{as_many, stands_at}
@@ -56,9 +56,9 @@ module _ (names : EventNames) (version : ℕ) (obligations : List Obligation) (p
         acted_at occasion G place ≡ acted names version G o.author place a
     acted-is a h asked = rw (stands-there h, asked) refl
 
-    pub acted-counted : (a : Action) → AreResponders obligations places G → slice_get o.response (place.action - 1) ≡ Some a →
-        judged_acted_at occasion G place ≡ judged_acted names version G o.author place a
-    acted-counted a h asked = rw (stands-there h, asked) refl
+    pub acted-counted : (w : Work) (a : Action) → AreResponders obligations places G → slice_get o.response (place.action - 1) ≡ Some a →
+        work_acted_at w occasion G place ≡ work_acted w names version G o.author place a
+    acted-counted w a h asked = rw (stands-there h, asked) refl
 
   -- the obligations stand in the graph behind it
   pub responders-stay : (H : Graph) → AreResponders obligations places G → IsTurn occasion G place → acted_at occasion G place ≡ Ok H →

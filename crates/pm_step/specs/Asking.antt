@@ -1,5 +1,5 @@
 -- Requests that ask and change nothing, and what they come to.
-use Rattle.std.specs.Prelude.{◌≡◌, ◌==◌, Bool, true, false, Result, Ok, Err}
+use Rattle.std.specs.Prelude.{◌≡◌, Bool, true, false, Result, Ok, Err}
 use Rattle.std.specs.List.{list_any}
 use Rattle.pm_model.specs.KeptReviews.{is_kept_of}
 use Rattle.pm_model.specs.State.{Graph}
@@ -10,7 +10,6 @@ use Rattle.pm_model.specs.declared.requests.Body.{Body}
 use Rattle.pm_model.specs.declared.requests.Body.TheVariants as body
 use Rattle.pm_model.specs.declared.requests.Review.{Review}
 use Rattle.pm_model.specs.declared.requests.Review.TheVariants.{Kept}
-use Rattle.pm_model.specs.declared.replies.Reply.{Reply}
 use Rattle.pm_model.specs.declared.replies.Reply.TheVariants as reply
 use Rattle.pm_machine.specs.Glances.{accessed_event}
 use Rattle.pm_step.specs.declared.proposals.Proposal.{Proposal}

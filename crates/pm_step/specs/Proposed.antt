@@ -6,7 +6,7 @@ use Rattle.pm_model.specs.Events.{raised}
 use Rattle.pm_model.specs.Formed.{IsLive, IsNamed}
 use Rattle.pm_model.specs.declared.events.Event.{Event}
 use Rattle.pm_model.specs.declared.requests.Change as requests
-use Rattle.pm_affect.specs.Counting.{judged_entered, judged_granted}
+use Rattle.pm_affect.specs.Counting.{Work, work_entered, work_granted}
 use Rattle.pm_pattern.specs.Live.{IsEventLive}
 use Rattle.pm_state.specs.Containing.{relation_in}
 use Rattle.pm_step.specs.declared.proposals.Actor.{Actor}
@@ -24,11 +24,11 @@ answer_by S (Told reply) = told reply
 answer_by S (Change change by) = entered S (event_by S.graph by change) change
 answer_by S (Granted e) = granted S e
 
--- how many rights are judged for kept reviews by it
-abbrev pub judged_by_proposal : State → Proposal → ℕ
-judged_by_proposal S (Told reply) = 0
-judged_by_proposal S (Change change by) = judged_entered S (event_by S.graph by change) change
-judged_by_proposal S (Granted e) = judged_granted S e
+-- how much work it is
+abbrev pub work_by_proposal : Work → State → Proposal → ℕ
+work_by_proposal w S (Told reply) = 0
+work_by_proposal w S (Change change by) = work_entered w S (event_by S.graph by change) change
+work_by_proposal w S (Granted e) = work_granted w S e
 
 -- the user who acts is live
 abbrev pub IsActorLive : Graph → Option Actor → Type 0

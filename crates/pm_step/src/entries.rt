@@ -8,10 +8,11 @@ ghost use Rattle.pm_model.specs.History.{state_of};
 ghost use Rattle.pm_model.specs.LastChanges.{with_changes};
 ghost use Rattle.pm_model.specs.Obligations.{max_obligations};
 ghost use Rattle.pm_model.specs.Responses.{Stopped, responses};
-ghost use Rattle.pm_affect.specs.Counting.{capped, judged_by, judged_entered, judged_for, judged_granted, judged_in, judged_responded, judged_responses};
+ghost use Rattle.pm_affect.specs.Counting.{Work, capped, work_by, work_entered, work_for, work_granted, work_in, work_responded, work_responses};
 ghost use Rattle.pm_runner.specs.Outcomes.{IsStop};
 ghost use Rattle.pm_pattern.specs.Live.{IsEventLive};
 ghost use Rattle.pm_state.specs.Containing.{relation_in};
+ghost use Rattle.pm_state.specs.Drafted.{done_in};
 ghost use Rattle.pm_runner.specs.Standing.{StandAt, without};
 ghost use Rattle.pm_step.specs.Steps.{IsStepFrom};
 ghost use Rattle.pm_step.specs.Proposed.{event_by, IsActorLive};
@@ -105,7 +106,7 @@ fn finish(
 ) -> Result<Stepped<State>, Memory>
     requires history { draft.history ≡ state.now.history }
     requires asked { proposed (state_of state.now) entry.request ≡ record { reply = reply; next = Some (record { graph = with_changes state.now.graph (length state.now.history + 1) draft.graph; version = length state.now.history + 1 }) } }
-    requires judged { capped draft.asked ≡ capped (judged_in state.now.history + judged_by (state_of state.now) entry.request) }
+    requires done { (w : Work) → capped (done_in draft w) ≡ capped (work_in w state.now.history + work_by w (state_of state.now) entry.request) }
     ensures { IfOk result (IsStepFrom state.now entry) }
 {
     state.replayed();
@@ -133,7 +134,7 @@ fn run_in(
     requires live { IsEventLive (relation_in graph.now) event.now }
     ensures ok { IfOk result (λ d. responses (names_in graph.now event.now) version draft.graph (items_at graph.now.obligations places.now) ≡ Ok d.graph) }
     ensures history { IfOk result (λ d. d.history ≡ draft.history) }
-    ensures judged { IfOk result (λ d. capped d.asked ≡ capped (draft.asked + judged_responses (names_in graph.now event.now) version draft.graph (items_at graph.now.obligations places.now))) }
+    ensures done { (w : Work) → IfOk result (λ d. capped (done_in d w) ≡ capped (done_in draft w + work_responses w (names_in graph.now event.now) version draft.graph (items_at graph.now.obligations places.now))) }
     ensures stopped { IfErr result (IsStop (responses (names_in graph.now event.now) version draft.graph (items_at graph.now.obligations places.now))) }
 {
     let obligations = graph.obligations();
@@ -172,7 +173,7 @@ fn settle(
     requires few { length places.now ≤ max_obligations }
     requires live { IsEventLive (relation_in state.now.graph) event.now }
     requires asked { proposed (state_of state.now) entry.request ≡ settled (state_of state.now) reply (responded (state_of state.now) (Some event.now) (items_at state.now.graph.obligations places.now) draft.graph) }
-    requires judged { capped (draft.asked + judged_responded (state_of state.now) (Some event.now) (items_at state.now.graph.obligations places.now) draft.graph) ≡ capped (judged_in state.now.history + judged_by (state_of state.now) entry.request) }
+    requires done { (w : Work) → capped (done_in draft w + work_responded w (state_of state.now) (Some event.now) (items_at state.now.graph.obligations places.now) draft.graph) ≡ capped (work_in w state.now.history + work_by w (state_of state.now) entry.request) }
     ensures { IfOk result (IsStepFrom state.now entry) }
 {
     let version = state.version() + 1;
@@ -190,7 +191,7 @@ pub(crate) fn enter_in_draft(
 ) -> Result<Stepped<State>, Memory>
     requires named { IsNamed state.now.graph change.now }
     requires asked { proposed (state_of state.now) entry.request ≡ entered (state_of state.now) None change.now }
-    requires judged { judged_by (state_of state.now) entry.request ≡ judged_for state.now.graph change.now }
+    requires work { (w : Work) → work_by w (state_of state.now) entry.request ≡ work_for w state.now.graph change.now }
     ensures { IfOk result (IsStepFrom state.now entry) }
 {
     let mut draft = state.draft()?;
@@ -212,7 +213,7 @@ pub(crate) fn respond_to_change(
     requires named { IsNamed state.now.graph change.now }
     requires live { IsEventLive (relation_in state.now.graph) event.now }
     requires asked { proposed (state_of state.now) entry.request ≡ entered (state_of state.now) (Some event.now) change.now }
-    requires judged { judged_by (state_of state.now) entry.request ≡ judged_entered (state_of state.now) (Some event.now) change.now }
+    requires work { (w : Work) → work_by w (state_of state.now) entry.request ≡ work_entered w (state_of state.now) (Some event.now) change.now }
     ensures { IfOk result (IsStepFrom state.now entry) }
 {
     let places = places_of(state.graph(), event, withdrawn(change))?;
@@ -235,7 +236,7 @@ pub(crate) fn respond_to_access(
     requires live { IsEventLive (relation_in state.now.graph) event.now }
     requires some { nat_lt 0 (length (responders state.now.graph state.now.graph.obligations (Some event.now))) ≡ true }
     requires asked { proposed (state_of state.now) entry.request ≡ granted (state_of state.now) event.now }
-    requires judged { judged_by (state_of state.now) entry.request ≡ judged_granted (state_of state.now) event.now }
+    requires work { (w : Work) → work_by w (state_of state.now) entry.request ≡ work_granted w (state_of state.now) event.now }
     ensures { IfOk result (IsStepFrom state.now entry) }
 {
     let places = places_of(state.graph(), event, None)?;

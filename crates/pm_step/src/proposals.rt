@@ -5,11 +5,11 @@ ghost use Rattle.pm_model.specs.Authority.{ruling};
 ghost use Rattle.pm_model.specs.Events.{event, raised};
 ghost use Rattle.pm_model.specs.History.{state_of};
 ghost use Rattle.pm_model.specs.Resolve.{look_up};
-ghost use Rattle.pm_affect.specs.Counting.{count_on, judged_by, judged_entered, judged_granted};
+ghost use Rattle.pm_affect.specs.Counting.{Work, count_on, work_by, work_entered, work_granted};
 ghost use Rattle.pm_machine.specs.Asking.{asks_freely};
 ghost use Rattle.pm_step.specs.Asking.{only_asks, proposal_of, IsReply, IsTold, IsAskedFor};
 ghost use Rattle.pm_machine.specs.Glances.{accessed_event};
-ghost use Rattle.pm_step.specs.Proposed.{answer_by, judged_by_proposal, IsPossible};
+ghost use Rattle.pm_step.specs.Proposed.{answer_by, work_by_proposal, IsPossible};
 
 use crate::reviewing::answer;
 use pm_admin::{acting, authorise_access, authorise_review, look_up, permit};
@@ -63,7 +63,7 @@ fn alone(change: Change) -> Proposal
 
 fn open_session(state: &State, user: Name) -> Proposal
     ensures answer { answer_by (state_of state.now) result ≡ or_refused (look_up state.now.graph user) (λ u. entered (state_of state.now) None (Change.OpenSession u)) }
-    ensures judged { judged_by_proposal (state_of state.now) result ≡ count_on (look_up state.now.graph user) (λ u. judged_entered (state_of state.now) None (Change.OpenSession u)) }
+    ensures work { (w : Work) → work_by_proposal w (state_of state.now) result ≡ count_on (look_up state.now.graph user) (λ u. work_entered w (state_of state.now) None (Change.OpenSession u)) }
     ensures possible { IsPossible (state_of state.now) result }
 {
     state.given();
@@ -76,7 +76,7 @@ fn open_session(state: &State, user: Name) -> Proposal
 
 fn start_process(state: &State, session: u32) -> Proposal
     ensures answer { answer_by (state_of state.now) result ≡ entered (state_of state.now) None (Change.StartProcess session) }
-    ensures judged { judged_by_proposal (state_of state.now) result ≡ judged_entered (state_of state.now) None (Change.StartProcess session) }
+    ensures work { (w : Work) → work_by_proposal w (state_of state.now) result ≡ work_entered w (state_of state.now) None (Change.StartProcess session) }
     ensures possible { IsPossible (state_of state.now) result }
 {
     state.given();
@@ -86,7 +86,7 @@ fn start_process(state: &State, session: u32) -> Proposal
 
 fn administer(state: &State, process: u32, command: &Command) -> Result<Proposal, Memory>
     ensures answer { IfOk result (λ p. answer_by (state_of state.now) p ≡ or_refused (acting state.now.graph process) (λ u. administered (state_of state.now) u process (ruling state.now.graph u (Some process) command.now))) }
-    ensures judged { IfOk result (λ p. judged_by_proposal (state_of state.now) p ≡ count_on (acting state.now.graph process) (λ u. count_on (ruling state.now.graph u (Some process) command.now) (λ c. judged_entered (state_of state.now) (raised state.now.graph u process c) c))) }
+    ensures work { (w : Work) → IfOk result (λ p. work_by_proposal w (state_of state.now) p ≡ count_on (acting state.now.graph process) (λ u. count_on (ruling state.now.graph u (Some process) command.now) (λ c. work_entered w (state_of state.now) (raised state.now.graph u process c) c))) }
     ensures possible { IfOk result (IsPossible (state_of state.now)) }
 {
     let graph = state.graph();
@@ -106,7 +106,7 @@ fn administer(state: &State, process: u32, command: &Command) -> Result<Proposal
 
 fn access(state: &State, process: u32, right: Name, target: Name) -> Proposal
     ensures answer { answer_by (state_of state.now) result ≡ or_refused (acting state.now.graph process) (λ u. answer_access (state_of state.now) u process right target) }
-    ensures judged { judged_by_proposal (state_of state.now) result ≡ count_on (acting state.now.graph process) (λ u. count_on (accessed state.now.graph u process right target) (λ t. judged_granted (state_of state.now) (event u process right t))) }
+    ensures work { (w : Work) → work_by_proposal w (state_of state.now) result ≡ count_on (acting state.now.graph process) (λ u. count_on (accessed state.now.graph u process right target) (λ t. work_granted w (state_of state.now) (event u process right t))) }
     ensures possible { IsPossible (state_of state.now) result }
     ensures told { IsTold result }
     ensures value { result ≡ proposal_of (accessed_event state.now.graph process right target) }
@@ -137,7 +137,7 @@ fn review<R: Threads + Sync>(
     ensures possible { IfOk result (IsPossible (state_of state.now)) }
     ensures told { IfOk result IsTold }
     ensures reply { IfOk result IsReply }
-    ensures judged { IfOk result (λ p. judged_by_proposal (state_of state.now) p ≡ 0) }
+    ensures work { (w : Work) → IfOk result (λ p. work_by_proposal w (state_of state.now) p ≡ 0) }
 {
     let graph = state.graph();
     let user = match acting(graph, process) {
@@ -159,7 +159,7 @@ pub(crate) fn propose<R: Threads + Sync>(
     request: &Request,
 ) -> Result<Proposal, Memory>
     ensures answer { IfOk result (λ p. answer_by (state_of state.now) p ≡ proposed (state_of state.now) request.now) }
-    ensures judged { IfOk result (λ p. judged_by_proposal (state_of state.now) p ≡ judged_by (state_of state.now) request.now) }
+    ensures work { (w : Work) → IfOk result (λ p. work_by_proposal w (state_of state.now) p ≡ work_by w (state_of state.now) request.now) }
     ensures possible { IfOk result (IsPossible (state_of state.now)) }
     ensures asked { only_asks request.now.body ≡ true → IfOk result IsTold }
     ensures free { asks_freely request.now.body ≡ true → IsOk result }

@@ -3,8 +3,9 @@ ghost use Rattle.std.specs.Prelude.{◌≡◌, ◌+◌, ◌≤◌, length, Ok, O
 ghost use Rattle.pm_model.specs.Formed.{IsUser};
 ghost use Rattle.pm_model.specs.Obligations.{max_obligations};
 ghost use Rattle.pm_model.specs.Responses.{acted, commanded, responses};
-ghost use Rattle.pm_affect.specs.Counting.{capped, judged_acted, judged_commanded, judged_responses};
+ghost use Rattle.pm_affect.specs.Counting.{Work, capped, work_acted, work_commanded, work_responses};
 ghost use Rattle.pm_runner.specs.Outcomes.{IsLeft, IsRefusal, IsStop, wants_memory};
+ghost use Rattle.pm_state.specs.Drafted.{done_in};
 ghost use Rattle.pm_step.specs.Responders.{AreResponders, items_at};
 
 use pm_admin::{all_hold, permit};
@@ -21,7 +22,7 @@ fn give(draft: &mut Draft, author: ElementId, command: &Command) -> Result<(), A
     ensures refused { IfErr result (IsRefusal (commanded draft.old.graph author command.now)) }
     ensures err { IfErr result (IsLeft draft.old.graph draft.new.graph (commanded draft.old.graph author command.now)) }
     ensures history { draft.new.history ≡ draft.old.history }
-    ensures judged { OnOk result (draft.new.asked ≡ capped (draft.old.asked + judged_commanded draft.old.graph author command.now)) }
+    ensures done { (w : Work) → OnOk result (done_in draft.new w ≡ capped (done_in draft.old w + work_commanded w draft.old.graph author command.now)) }
 {
     let change = match permit(draft.graph(), author, None, command) {
         Ok(change) => change,
@@ -49,7 +50,7 @@ fn act_by(
     ensures refused { IfErr result (IsRefusal (acted names.now version draft.old.graph author place action.now)) }
     ensures err { IfErr result (IsLeft draft.old.graph draft.new.graph (acted names.now version draft.old.graph author place action.now)) }
     ensures history { draft.new.history ≡ draft.old.history }
-    ensures judged { OnOk result (capped draft.new.asked ≡ capped (draft.old.asked + judged_acted names.now version draft.old.graph author place action.now)) }
+    ensures done { (w : Work) → OnOk result (capped (done_in draft.new w) ≡ capped (done_in draft.old w + work_acted w names.now version draft.old.graph author place action.now)) }
 {
     let fresh = fresh_name(place, version);
     match all_hold(draft.graph(), names, fresh, action.guards.as_slice()) {
@@ -123,13 +124,15 @@ impl<'a> Responding<'a> {
 }
 
 impl<'a> Acts for Responding<'a> {
+    ghost use Rattle.pm_state.specs.Drafted.{done_in};
+
     ghost occasion = { λ s. s.occasion };
 
     ghost graph = { λ s. s.draft.graph };
 
     ghost history = { λ s. s.draft.history };
 
-    ghost judged = { λ s. s.draft.asked };
+    ghost done = { λ s. done_in s.draft };
 
     ghost short = { λ s. s.short };
 
@@ -165,7 +168,7 @@ pub(crate) fn respond(
     requires few { length places.now ≤ max_obligations }
     ensures ok { IfOk result (λ d. responses names version draft.graph (items_at obligations.now.items places.now) ≡ Ok d.graph) }
     ensures history { IfOk result (λ d. d.history ≡ draft.history) }
-    ensures judged { IfOk result (λ d. capped d.asked ≡ capped (draft.asked + judged_responses names version draft.graph (items_at obligations.now.items places.now))) }
+    ensures done { (w : Work) → IfOk result (λ d. capped (done_in d w) ≡ capped (done_in draft w + work_responses w names version draft.graph (items_at obligations.now.items places.now))) }
     ensures stopped { IfErr result (IsStop (responses names version draft.graph (items_at obligations.now.items places.now))) }
 {
     let mut acts = Responding {

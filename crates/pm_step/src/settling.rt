@@ -3,6 +3,8 @@ ghost use Rattle.std.specs.Prelude.{◌≡◌, ◌<◌, true, length, slice_get,
 ghost use Rattle.std.specs.List.{list_any};
 ghost use Rattle.pm_model.specs.KeptReviews.{KeptReview, is_kept_of, is_same, kept_at};
 ghost use Rattle.pm_model.specs.LastChanges.{changes_in, settled_review};
+ghost use Rattle.pm_affect.specs.Counting.{Work};
+ghost use Rattle.pm_state.specs.Drafted.{done_in};
 ghost use Rattle.pm_step.specs.Settling.{is_kept_so, reviews_settled};
 
 use pm_model::{ChangeList, ElementId, Memory, ReviewOf};
@@ -58,7 +60,7 @@ fn settle_at(before: &State, draft: &mut Draft, place: usize, version: u64) -> R
     requires history { draft.old.history ≡ before.now.history }
     ensures ok { OnOk result ((k : KeptReview) → slice_get draft.old.graph.kept place ≡ Some k → draft.new.graph ≡ record draft.old.graph { kept = slice_set draft.old.graph.kept place (settled_review before.now.graph draft.old.graph version k) }) }
     ensures history { draft.new.history ≡ draft.old.history }
-    ensures asked { draft.new.asked ≡ draft.old.asked }
+    ensures done { (w : Work) → done_in draft.new w ≡ done_in draft.old w }
 {
     let Some((number, of)) = draft.graph().kept().at(place) else {
         unreachable!()
@@ -81,7 +83,7 @@ pub(crate) fn settle_reviews(before: &State, draft: &mut Draft, version: u64) ->
     requires { draft.old.history ≡ before.now.history }
     ensures ok { OnOk result (draft.new.graph ≡ reviews_settled before.now.graph version draft.old.graph) }
     ensures history { draft.new.history ≡ draft.old.history }
-    ensures asked { draft.new.asked ≡ draft.old.asked }
+    ensures done { (w : Work) → done_in draft.new w ≡ done_in draft.old w }
 {
     for place in 0..draft.graph().kept().len() {
         settle_at(before, draft, place, version)?;

@@ -1,11 +1,11 @@
 //! The machine with one caller.
 ghost use Rattle.std.specs.Prelude.{◌≡◌};
-ghost use Rattle.pm_affect.specs.Counting.{capped, judged_in};
 
 use crate::steps::advance;
 use pm_machine::Answerer;
 use pm_model::{ElementId, Memory, Name, NameOf, Reply, Request};
 use pm_state::State;
+use pm_tally::Tally;
 use std::alloc::Global;
 use std::marker::Model;
 use std::thread::Threads;
@@ -49,13 +49,6 @@ impl Solo {
     {
         &self.state
     }
-
-    /// How many rights it has judged for kept reviews, up to 2^64 - 1: what an answer adds, `answer_counted` tells.
-    pub fn asked(&self) -> u64
-        ensures { result ≡ capped (judged_in self.now.history) }
-    {
-        self.state.asked()
-    }
 }
 
 impl Answerer for Solo {
@@ -79,5 +72,24 @@ impl Answerer for Solo {
         let nth = self.version() + 1;
         let reply = advance(rt, &mut self.state, 0, nth, request)?;
         Ok((reply, self.version()))
+    }
+}
+
+impl Tally for Solo {
+    fn replayed(&self) {
+        self.state.replayed();
+    }
+
+    fn live(&self) -> u64 {
+        self.state.graph().formed();
+        self.state.graph().elements().len() as u64
+    }
+
+    fn asked(&self) -> u64 {
+        self.state.asked()
+    }
+
+    fn written(&self) -> u64 {
+        self.state.written()
     }
 }

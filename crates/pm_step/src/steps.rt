@@ -5,7 +5,7 @@ ghost use Rattle.pm_model.specs.Events.{responders};
 ghost use Rattle.pm_model.specs.Formed.{IsNamed};
 ghost use Rattle.pm_model.specs.History.{state_of};
 ghost use Rattle.pm_model.specs.declared.requests.Entry.{Entry};
-ghost use Rattle.pm_affect.specs.Counting.{judged_by, judged_entered, judged_for, judged_granted};
+ghost use Rattle.pm_affect.specs.Counting.{Work, work_by, work_entered, work_for, work_granted};
 ghost use Rattle.pm_pattern.specs.Live.{IsEventLive};
 ghost use Rattle.pm_state.specs.Containing.{relation_in};
 ghost use Rattle.pm_state.specs.Leaving.{LeavesReviews};
@@ -28,7 +28,7 @@ fn enter(state: &mut State, change: &Change, entry: Entry) -> Result<Reply, Memo
     requires leaves { LeavesReviews state.old.graph change.now }
     requires named { IsNamed state.old.graph change.now }
     requires asked { proposed (state_of state.old) entry.request ≡ entered (state_of state.old) None change.now }
-    requires judged { judged_by (state_of state.old) entry.request ≡ judged_for state.old.graph change.now }
+    requires work { (w : Work) → work_by w (state_of state.old) entry.request ≡ work_for w state.old.graph change.now }
     ensures ok { IfOk result (HasAnswered state.old state.new entry) }
     ensures err { OnErr result (state.new ≡ state.old) }
 {
@@ -56,7 +56,7 @@ fn go_on(state: &mut State, stepped: Stepped<State>) -> Reply
 fn enter_alone(state: &mut State, change: &Change, entry: Entry) -> Result<Reply, Memory>
     requires named { IsNamed state.old.graph change.now }
     requires asked { proposed (state_of state.old) entry.request ≡ entered (state_of state.old) None change.now }
-    requires judged { judged_by (state_of state.old) entry.request ≡ judged_for state.old.graph change.now }
+    requires work { (w : Work) → work_by w (state_of state.old) entry.request ≡ work_for w state.old.graph change.now }
     ensures ok { IfOk result (HasAnswered state.old state.new entry) }
     ensures err { OnErr result (state.new ≡ state.old) }
 {
@@ -78,7 +78,7 @@ fn enter_by(
     requires named { IsNamed state.old.graph change.now }
     requires by { IsActorLive state.old.graph by }
     requires asked { proposed (state_of state.old) entry.request ≡ entered (state_of state.old) (event_by state.old.graph by change.now) change.now }
-    requires judged { judged_by (state_of state.old) entry.request ≡ judged_entered (state_of state.old) (event_by state.old.graph by change.now) change.now }
+    requires work { (w : Work) → work_by w (state_of state.old) entry.request ≡ work_entered w (state_of state.old) (event_by state.old.graph by change.now) change.now }
     ensures ok { IfOk result (HasAnswered state.old state.new entry) }
     ensures err { OnErr result (state.new ≡ state.old) }
 {
@@ -97,7 +97,7 @@ fn enter_access(state: &mut State, event: &Event, entry: Entry) -> Result<Reply,
     requires live { IsEventLive (relation_in state.old.graph) event.now }
     requires some { nat_lt 0 (length (responders state.old.graph state.old.graph.obligations (Some event.now))) ≡ true }
     requires asked { proposed (state_of state.old) entry.request ≡ granted (state_of state.old) event.now }
-    requires judged { judged_by (state_of state.old) entry.request ≡ judged_granted (state_of state.old) event.now }
+    requires work { (w : Work) → work_by w (state_of state.old) entry.request ≡ work_granted w (state_of state.old) event.now }
     ensures ok { IfOk result (HasAnswered state.old state.new entry) }
     ensures err { OnErr result (state.new ≡ state.old) }
 {
@@ -117,7 +117,7 @@ fn enter_access_of(
     requires live { IsEventLive (relation_in state.old.graph) event.now }
     requires some { nat_lt 0 (length (responders state.old.graph state.old.graph.obligations (Some event.now))) ≡ true }
     requires asked { proposed (state_of state.old) request.now ≡ granted (state_of state.old) event.now }
-    requires judged { judged_by (state_of state.old) request.now ≡ judged_granted (state_of state.old) event.now }
+    requires work { (w : Work) → work_by w (state_of state.old) request.now ≡ work_granted w (state_of state.old) event.now }
     ensures ok { IfOk result (HasAnswered state.old state.new (record { seat = seat; nth = nth; request = request.now })) }
     ensures err { OnErr result (state.new ≡ state.old) }
 {
@@ -135,7 +135,7 @@ fn grant(
 ) -> Result<Reply, Memory>
     requires live { IsEventLive (relation_in state.old.graph) event.now }
     requires asked { proposed (state_of state.old) request.now ≡ granted (state_of state.old) event.now }
-    requires judged { judged_by (state_of state.old) request.now ≡ judged_granted (state_of state.old) event.now }
+    requires work { (w : Work) → work_by w (state_of state.old) request.now ≡ work_granted w (state_of state.old) event.now }
     ensures ok { IfOk result (HasAnswered state.old state.new (record { seat = seat; nth = nth; request = request.now })) }
     ensures err { OnErr result (state.new ≡ state.old) }
     ensures free { none_responded (granted (state_of state.old) event.now).reply ≡ true → IsOk result }
@@ -175,7 +175,7 @@ fn answered<R: Threads + Sync>(
 /// before; `version` never answers Memory, nor does an access to which no obligation responds. A `survey` may
 /// start threads, which end within the call.
 ///
-/// What it adds to the count of rights judged for kept reviews is what the changes of its entry ask about.
+/// What it adds to the counts of rights judged for kept reviews and of rows written is the work of the changes of its entry.
 pub fn advance<R: Threads + Sync>(
     rt: &R,
     state: &mut State,
@@ -184,7 +184,7 @@ pub fn advance<R: Threads + Sync>(
     request: &Request,
 ) -> Result<Reply, Memory>
     ensures ok { IfOk result (HasAnswered state.old state.new (record { seat = seat; nth = nth; request = request.now })) }
-    ensures judged { OnOk result (HasCounted state.old state.new request.now) }
+    ensures work { OnOk result (HasCounted state.old state.new request.now) }
     ensures err { OnErr result (state.new ≡ state.old) }
     ensures free { asks_freely request.now.body ≡ true → none_responded (proposed (state_of state.old) request.now).reply ≡ true → IsOk result }
 {
@@ -203,7 +203,7 @@ pub fn step<R: Threads + Sync>(
     request: &Request,
 ) -> Result<Stepped<State>, Memory>
     ensures ok { IfOk result (IsStepFrom state.now (record { seat = seat; nth = nth; request = request.now })) }
-    ensures judged { IfOk result (HasCountedFrom state.now request.now) }
+    ensures work { IfOk result (HasCountedFrom state.now request.now) }
 {
     state.replayed();
     let mut next = state.copy()?;

@@ -163,27 +163,46 @@ fn stepped(
     }
 }
 
+// What is asked of the opening state, with what is told and the version of the next state.
+static STEPS: &[(Option<u64>, Ask, Told, Option<u64>)] = &[
+    (Some(0), Ask::Version, Done, None),
+    (Some(1), Ask::Class("files"), Ahead, None),
+    (None, Ask::Class("pm"), Refused("name_taken"), None),
+    (None, Ask::Read(1, "pm"), Refused("unknown_process"), None),
+    (None, Ask::Read(0, "pm"), Refused("class"), None),
+    (Some(0), Ask::Class("files"), Done, Some(1)),
+    (None, Ask::Start(0), Process(1), Some(1)),
+    (None, Ask::Open("root"), Session(1), Some(1)),
+];
+
 #[test]
 fn steps_from_the_opening(rt: HostRuntime) {
     let state = State::opening(rt.alloc()).expect(&rt, "memory");
-    for (after, ask, want) in [
-        (Some(0), Ask::Version, (Done, None)),
-        (Some(1), Ask::Class("files"), (Ahead, None)),
-        (None, Ask::Class("pm"), (Refused("name_taken"), None)),
-        (None, Ask::Read(1, "pm"), (Refused("unknown_process"), None)),
-        (None, Ask::Read(0, "pm"), (Refused("class"), None)),
-        (Some(0), Ask::Class("files"), (Done, Some(1))),
-        (None, Ask::Start(0), (Process(1), Some(1))),
-        (None, Ask::Open("root"), (Session(1), Some(1))),
-    ] {
-        let came = stepped(&rt, &state, &request(&rt, after, ask));
-        assert_eq!(rt; came, want);
+    for (after, ask, want, version) in STEPS {
+        let came = stepped(&rt, &state, &request(&rt, *after, *ask));
+        assert_eq!(rt; came, (*want, *version));
     }
 }
 
 fn answer(rt: &(impl Threads + Abort + Sync), solo: &mut Solo, request: &Request) -> (Told, u64) {
     let (reply, version) = solo.ask(rt, request).expect(rt, "memory");
     (what(&reply), version)
+}
+
+// Gives a request, whatever it is told.
+fn give(rt: &(impl Threads + Abort + Sync), solo: &mut Solo, request: Request) {
+    answer(rt, solo, &request);
+}
+
+// A request is told this, at this version.
+fn is_told(
+    rt: &(impl Threads + Abort + Sync),
+    solo: &mut Solo,
+    request: Request,
+    told: Told,
+    version: u64,
+) {
+    assert_eq!(rt; answer(rt, solo, &request), (told, version));
 }
 
 // What is asked of one machine, with what is told and the version then. Root may review what is live; it may
@@ -203,7 +222,6 @@ static REQUESTS: &[(Ask, Told, u64)] = &[
 fn reviews_leave_the_version(rt: HostRuntime) {
     let mut solo = Solo::opening(rt.alloc()).expect(&rt, "memory");
     for (ask, want, version) in REQUESTS {
-        let came = answer(&rt, &mut solo, &request(&rt, None, *ask));
-        assert_eq!(rt; came, (*want, *version));
+        is_told(&rt, &mut solo, request(&rt, None, *ask), *want, *version);
     }
 }

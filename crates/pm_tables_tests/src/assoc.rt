@@ -67,7 +67,7 @@ fn rows_are(
 fn stand_by_attribute_in_order_of_creation(rt: HostRuntime) -> Result<(), Fail> {
     let made = [(5, 1, 1), (2, 2, 9), (9, 3, 3), (2, 4, 4), (5, 5, 0)];
     let table = table_of(rt.alloc(), &made)?;
-    assert_eq!(rt; table.len(), 5);
+    assert!(rt; table.len() == 5);
     let want = [(2, 2, 9), (2, 4, 4), (5, 1, 1), (5, 5, 0), (9, 3, 3)];
     rows_are(&rt, &table, &want)?;
     Ok(())
@@ -101,7 +101,7 @@ const ENDS: [Row; 5] = [(63, 1, 1), (0, 1, 1), (16383, 1, 1), (64, 1, 1), (63, 1
 #[test]
 fn words_tell_who_has_associations(rt: HostRuntime) -> Result<(), Fail> {
     let table = table_of(rt.alloc(), &ENDS)?;
-    assert_eq!(rt; table.holder_words(), 256);
+    assert!(rt; table.holder_words() == 256);
     assert_eq!(rt; words_of(&table), [(1 << 63) + 1, 1, 1 << 63]);
     Ok(())
 }
@@ -154,9 +154,8 @@ fn copies_go_apart(rt: HostRuntime) -> Result<(), Fail> {
     let table = table_of(rt.alloc(), &[(2, 1, 9), (2, 6, 4)])?;
     let mut both = copied(table)?;
     part(&mut both)?;
-    assert!(rt; both.table.names(ElementId(4)));
-    assert!(rt; !both.table.names(ElementId(9)));
-    assert_eq!(rt; (both.table.len(), both.copy.len()), (1, 4));
+    assert!(rt; both.table.names(ElementId(4)) && !both.table.names(ElementId(9)));
+    assert!(rt; both.table.len() == 1 && both.copy.len() == 4);
     rows_are(&rt, &both.table, &[(2, 6, 4)])?;
     rows_are(
         &rt,

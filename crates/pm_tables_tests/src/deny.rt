@@ -111,14 +111,14 @@ fn elements_are_named(rt: HostRuntime) -> Result<(), Fail> {
 fn a_name_is_taken_once(rt: HostRuntime) -> Result<(), Fail> {
     let list = six(&rt)?;
     let taken = item_of(&rt, &("c", Subject::Process(1), 1, &[], &[]))?;
-    assert_eq!(rt; list.check_prohibit(&taken), Err(DenyError::NameTaken));
+    assert!(rt; list.check_prohibit(&taken) == Err(DenyError::NameTaken));
     Ok(())
 }
 
 /// Lifts the prohibition on process 2.
 fn lift_c(rt: &impl Abort, list: &mut Deny) -> Result<(), DenyError> {
     let c = named(rt, "c");
-    assert_eq!(rt; list.find(c), Some(2));
+    assert!(rt; list.find(c) == Some(2));
     let lifted = list.lift(c)?;
     assert!(rt; lifted.name == c);
     places_are(rt, &lifted.exc, &[ElementId(7), ElementId(8)]);
@@ -163,7 +163,7 @@ const BARS: [Row; 4] = [
 ];
 
 /// A user, a process, a right, an element, and the place of the first that applies.
-const ASKED: [(u32, Option<u32>, u8, u32, Option<u32>); 7] = [
+static ASKED: &[(u32, Option<u32>, u8, u32, Option<u32>)] = &[
     (5, None, 0, 3, Some(2)),
     (5, Some(4), 0, 3, Some(1)),
     (5, Some(9), 0, 3, Some(2)),
@@ -173,14 +173,25 @@ const ASKED: [(u32, Option<u32>, u8, u32, Option<u32>); 7] = [
     (6, None, 0, 8, None),
 ];
 
+fn first_applying(
+    rt: &impl Abort,
+    list: &Deny,
+    user: u32,
+    process: Option<u32>,
+    right: u8,
+    element: u32,
+) -> Option<u32> {
+    let (user, element) = (ElementId(user), ElementId(element));
+    assert!(rt; right < 64);
+    list.first_applying(user, process, right, element, &mut InZero)
+}
+
 #[test]
 fn the_first_of_two_applies(rt: HostRuntime) -> Result<(), Fail> {
     let list = list_of(&rt, &BARS)?;
     for (user, process, right, element, want) in ASKED {
-        let user = ElementId(user);
-        let element = ElementId(element);
-        let first = list.first_applying(user, process, right, element, &mut InZero);
-        assert_eq!(rt; first, want);
+        let first = first_applying(&rt, &list, *user, *process, *right, *element);
+        assert_eq!(rt; first, *want);
     }
     Ok(())
 }

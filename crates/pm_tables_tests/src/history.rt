@@ -31,8 +31,8 @@ fn at(history: &History, i: u64) -> Option<(u32, u64)> {
 }
 
 /// What stands at the first three places.
-fn first_three(history: &History) -> [Option<(u32, u64)>; 3] {
-    [at(history, 0), at(history, 1), at(history, 2)]
+fn three_are(rt: &impl Abort, history: &History, want: [Option<(u32, u64)>; 3]) {
+    assert_eq!(rt; [at(history, 0), at(history, 1), at(history, 2)], want);
 }
 
 #[test]
@@ -44,7 +44,7 @@ fn the_third_of_two_is_full(rt: HostRuntime) {
     let third = history.push(end_of(4, 2, 9));
     assert!(rt; third == Err(HistoryError::Full));
     assert!(rt; history.len() == 2 && history.limit() == 2);
-    assert_eq!(rt; first_three(&history), [Some((4, 1)), Some((3, 1)), None]);
+    three_are(&rt, &history, [Some((4, 1)), Some((3, 1)), None]);
 }
 
 #[test]
@@ -115,14 +115,8 @@ fn a_copy_is_another_history(rt: HostRuntime) -> Result<(), Fail> {
     assert!(rt; both.copy.len() == 1 && both.copy.limit() == 3);
     push_two(&mut both.copy)?;
     assert!(rt; both.history.len() == 2);
-    assert_eq!(rt;
-        first_three(&both.history),
-        [Some((4, 1)), Some((3, 1)), None]
-    );
-    assert_eq!(rt;
-        first_three(&both.copy),
-        [Some((4, 1)), Some((5, 1)), Some((5, 2))]
-    );
+    three_are(&rt, &both.history, [Some((4, 1)), Some((3, 1)), None]);
+    three_are(&rt, &both.copy, [Some((4, 1)), Some((5, 1)), Some((5, 2))]);
     Ok(())
 }
 
@@ -157,7 +151,7 @@ fn taken_back(alloc: Global) -> Result<History, HistoryError> {
 fn take_back_leaves_the_others(rt: HostRuntime) -> Result<(), Fail> {
     let mut history = taken_back(rt.alloc())?;
     assert!(rt; history.len() == 1);
-    assert_eq!(rt; first_three(&history), [Some((4, 1)), None, None]);
+    three_are(&rt, &history, [Some((4, 1)), None, None]);
     history.push(end_of(3, 2, 9))?;
     assert_eq!(rt; at(&history, 1), Some((3, 2)));
     Ok(())
@@ -185,36 +179,31 @@ fn apart(alloc: Global, count: u64) -> Result<Both, Fail> {
     Ok(Both { history, copy })
 }
 
-/// What stands at a place of both.
-fn at_both(both: &Both, i: u64) -> (Option<(u32, u64)>, Option<(u32, u64)>) {
-    (at(&both.history, i), at(&both.copy, i))
-}
-
-/// Before the last of the first `count` entries both have the same.
-fn check_first(rt: &impl Abort, both: &Both, i: u64) {
-    let same = Some((4, i));
-    assert_eq!(rt; at_both(both, i), (same, same), "at {i}");
-}
-
-/// From there on each has its own.
-fn check_last(rt: &impl Abort, both: &Both, last: u64, count: u64) {
+/// What stands at a place of the one and of the other.
+fn both_are(
+    rt: &impl Abort,
+    both: &Both,
+    i: u64,
+    one: Option<(u32, u64)>,
+    other: Option<(u32, u64)>,
+) {
     assert_eq!(rt;
-        at_both(both, last),
-        (Some((4, last)), Some((5, 1))),
-        "at {last}"
-    );
-    assert_eq!(rt;
-        at_both(both, count),
-        (Some((3, 1)), Some((5, 2))),
-        "at {count}"
+        (at(&both.history, i), at(&both.copy, i)),
+        (one, other),
+        "at {i}"
     );
 }
 
-fn check_ends(rt: &impl Abort, both: &Both, count: u64)
+/// The places at which they go apart, and some before, of so many entries that they began with.
+fn check_apart(rt: &impl Abort, both: &Both, before: u64, last: u64, count: u64)
     requires { count < 2000 }
 {
+    both_are(rt, both, 0, Some((4, 0)), Some((4, 0)));
+    both_are(rt, both, before, Some((4, before)), Some((4, before)));
+    both_are(rt, both, last, Some((4, last)), Some((5, 1)));
+    both_are(rt, both, count, Some((3, 1)), Some((5, 2)));
+    both_are(rt, both, count + 1, None, None);
     assert!(rt; both.history.len() == count + 1 && both.copy.len() == count + 1);
-    assert_eq!(rt; at_both(both, count + 1), (None, None), "behind {count}");
 }
 
 /// The last two places of so many entries, around the ends of pages.
@@ -233,10 +222,7 @@ const ENDS: [(u64, u64, u64); 8] = [
 fn copies_go_apart_across_the_end_of_a_page(rt: HostRuntime) -> Result<(), Fail> {
     for (before, last, count) in ENDS {
         let both = apart(rt.alloc(), count)?;
-        check_first(&rt, &both, 0);
-        check_first(&rt, &both, before);
-        check_last(&rt, &both, last, count);
-        check_ends(&rt, &both, count);
+        check_apart(&rt, &both, before, last, count);
     }
     Ok(())
 }

@@ -27,11 +27,9 @@ fn came(rt: &impl Abort, alloc: Global, text: &str, new: u64) -> Result<ChangeLi
     Ok(list)
 }
 
-/// Keeps these reviews, which get these numbers.
-fn keep_as(rt: &impl Abort, table: &mut KeptReviews, reviews: &[(ReviewOf<ElementId>, u32)]) {
-    for (of, number) in reviews {
-        assert_eq!(rt; table.keep(*of), Ok(*number));
-    }
+/// Keeps a review, which gets this number.
+fn keep_as(rt: &impl Abort, table: &mut KeptReviews, of: ReviewOf<ElementId>, number: u32) {
+    assert_eq!(rt; table.keep(of), Ok(number));
 }
 
 /// Keeps the capabilities of so many users.
@@ -64,54 +62,61 @@ fn copy_of(table: &mut KeptReviews) -> Result<KeptReviews, Memory> {
 #[test]
 fn the_least_number_is_used_again(rt: HostRuntime) {
     let mut table = KeptReviews::new(rt.alloc());
-    keep_as(&rt, &mut table, &[(ANN, 0), (TO_ANN, 1), (BOB, 2)]);
+    keep_as(&rt, &mut table, ANN, 0);
+    keep_as(&rt, &mut table, TO_ANN, 1);
+    keep_as(&rt, &mut table, BOB, 2);
     table.drop_review(1);
     table.drop_review(0);
     assert!(rt; !table.reviews(ElementId(7)));
-    keep_as(&rt, &mut table, &[(TO_ANN, 0)]);
+    keep_as(&rt, &mut table, TO_ANN, 0);
     assert!(rt; table.reviews(ElementId(7)));
-    assert!(rt; table.of(0) == Some(TO_ANN));
-    assert!(rt; table.at(1) == Some((2, BOB)));
-    keep_as(&rt, &mut table, &[(ANN, 1)]);
+    assert!(rt; table.of(0) == Some(TO_ANN) && table.at(1) == Some((2, BOB)));
+    keep_as(&rt, &mut table, ANN, 1);
 }
 
 #[test]
 fn one_review_is_kept_once(rt: HostRuntime) {
     let mut table = KeptReviews::new(rt.alloc());
     assert!(rt; table.is_empty());
-    keep_as(&rt, &mut table, &[(ANN, 0)]);
-    assert_eq!(rt; table.check(&ANN), Err(KeptError::Already));
-    assert_eq!(rt; table.check(&TO_ANN), Ok(()));
-    assert_eq!(rt; table.keep(ANN), Err(KeptError::Already));
+    keep_as(&rt, &mut table, ANN, 0);
+    assert!(rt; table.check(&ANN) == Err(KeptError::Already));
+    assert!(rt; table.check(&TO_ANN).is_ok());
+    assert!(rt; table.keep(ANN) == Err(KeptError::Already));
 }
 
 #[test]
 fn the_257th_is_refused(rt: HostRuntime) -> Result<(), Fail> {
     let mut table = KeptReviews::new(rt.alloc());
     keep_users(&mut table, 255)?;
-    keep_as(&rt, &mut table, &[(TO_ANN, 255)]);
-    assert_eq!(rt; table.len(), 256);
-    assert_eq!(rt;
-        table.keep(ReviewOf::Caps(ElementId(255))),
-        Err(KeptError::Full)
-    );
-    assert_eq!(rt; table.check(&TO_ANN), Err(KeptError::Already));
+    keep_as(&rt, &mut table, TO_ANN, 255);
+    assert!(rt; table.len() == 256);
+    let another = ReviewOf::Caps(ElementId(255));
+    assert!(rt; table.keep(another) == Err(KeptError::Full));
+    assert!(rt; table.check(&TO_ANN) == Err(KeptError::Already));
     Ok(())
+}
+
+/// The reviews of ann and bob, of which version 5 has changed the second.
+fn changed(rt: &(impl Abort + Alloc<A = Global>)) -> Result<KeptReviews, Fail> {
+    let mut table = KeptReviews::new(rt.alloc());
+    keep_as(rt, &mut table, ANN, 0);
+    keep_as(rt, &mut table, BOB, 1);
+    set_last(&mut table, 1, 5, came(rt, rt.alloc(), "doc", 3)?);
+    Ok(table)
+}
+
+fn both_last(table: &KeptReviews) -> [Option<(u64, usize)>; 2] {
+    [last(table, 0), last(table, 1)]
 }
 
 #[test]
 fn a_copy_goes_its_own_way(rt: HostRuntime) -> Result<(), Fail> {
-    let mut table = KeptReviews::new(rt.alloc());
-    keep_as(&rt, &mut table, &[(ANN, 0), (BOB, 1)]);
-    set_last(&mut table, 1, 5, came(&rt, rt.alloc(), "doc", 3)?);
+    let mut table = changed(&rt)?;
     let mut copy = copy_of(&mut table)?;
     set_last(&mut copy, 1, 6, ChangeList::new(rt.alloc()));
     table.drop_review(0);
-    assert_eq!(rt; (last(&table, 0), last(&copy, 0)), (None, Some((0, 0))));
-    assert_eq!(rt;
-        (last(&table, 1), last(&copy, 1)),
-        (Some((5, 1)), Some((6, 0)))
-    );
+    assert_eq!(rt; both_last(&table), [None, Some((5, 1))]);
+    assert_eq!(rt; both_last(&copy), [Some((0, 0)), Some((6, 0))]);
     Ok(())
 }
 

@@ -50,7 +50,7 @@ fn opening_rights_stand_by_bit(rt: HostRuntime) -> Result<(), Fail> {
     for (bit, text) in OPENING.iter().enumerate() {
         check_right(&rt, &names, text, bit as u8);
     }
-    assert_eq!(rt; names.len(), 17);
+    assert!(rt; names.len() == 17);
     Ok(())
 }
 
@@ -60,28 +60,41 @@ fn with_print(rt: &(impl Abort + Alloc<A = Global>)) -> Result<RightNames, Fail>
     Ok(names)
 }
 
+fn is_taken(rt: &impl Abort, names: &mut RightNames, text: &str) {
+    let name = named(rt, text);
+    assert!(rt;
+        names.check_define(name) == Err(RightsError::NameTaken),
+        "{text}"
+    );
+    assert!(rt; names.define(name) == Err(RightsError::NameTaken), "{text}");
+}
+
+static TAKEN: &[&str] = &["assign", "keep", "survey", "read", "print", "version"];
+
 #[test]
 fn taken_names_are_refused(rt: HostRuntime) -> Result<(), Fail> {
     let mut names = with_print(&rt)?;
-    let taken = Err(RightsError::NameTaken);
-    for text in ["assign", "keep", "survey", "read", "print", "version"] {
-        let name = named(&rt, text);
-        let told = (names.check_define(name), names.define(name));
-        assert_eq!(rt; told, (taken, taken), "{text}");
+    for text in TAKEN {
+        is_taken(&rt, &mut names, text);
     }
-    assert_eq!(rt; names.len(), 18);
+    assert!(rt; names.len() == 18);
     Ok(())
 }
+
+fn is_free(rt: &impl Abort, names: &RightNames, text: &str) {
+    let name = named(rt, text);
+    assert!(rt; names.check_define(name).is_ok(), "{text}");
+    assert!(rt; names.find(name).is_none(), "{text}");
+}
+
+static FREE: &[&str] = &["Read", "rea", "reads", "kept_", "pm"];
 
 #[test]
 fn other_names_are_free(rt: HostRuntime) -> Result<(), Fail> {
     let names = with_print(&rt)?;
-    for text in ["Read", "rea", "reads", "kept_", "pm"] {
-        let name = named(&rt, text);
-        let told = (names.check_define(name), names.find(name));
-        assert_eq!(rt; told, (Ok(()), None), "{text}");
+    for text in FREE {
+        is_free(&rt, &names, text);
     }
-    assert_eq!(rt; names.len(), 18);
     Ok(())
 }
 
@@ -97,15 +110,10 @@ fn defined(rt: &(impl Abort + Alloc<A = Global>), count: u8) -> Result<RightName
 #[test]
 fn holds_47_defined_rights(rt: HostRuntime) -> Result<(), Fail> {
     let mut names = defined(&rt, 47)?;
-    let last = names.find(numbered(&rt, 46));
-    assert_eq!(rt; (names.len(), last), (64, Some(63)));
-    let full = names.define(numbered(&rt, 47));
-    let taken = names.define(numbered(&rt, 0));
-    assert_eq!(rt;
-        (full, taken),
-        (Err(RightsError::Full), Err(RightsError::NameTaken))
-    );
-    assert!(rt; names.name_of(64).is_none());
+    assert!(rt; names.len() == 64 && names.name_of(64).is_none());
+    assert!(rt; names.find(numbered(&rt, 46)) == Some(63));
+    assert!(rt; names.define(numbered(&rt, 47)) == Err(RightsError::Full));
+    assert!(rt; names.define(numbered(&rt, 0)) == Err(RightsError::NameTaken));
     Ok(())
 }
 
@@ -126,17 +134,21 @@ fn gone_apart(rt: &(impl Abort + Alloc<A = Global>)) -> Result<Both, Fail> {
 }
 
 /// The bits of a name in both.
-fn bits(rt: &impl Abort, both: &Both, text: &str) -> (Option<u8>, Option<u8>) {
+fn has_bits(rt: &impl Abort, both: &Both, text: &str, bits: (Option<u8>, Option<u8>)) {
     let name = named(rt, text);
-    (both.names.find(name), both.copy.find(name))
+    assert_eq!(rt;
+        (both.names.find(name), both.copy.find(name)),
+        bits,
+        "{text}"
+    );
 }
 
 #[test]
 fn a_copy_is_another_table(rt: HostRuntime) -> Result<(), Fail> {
     let both = gone_apart(&rt)?;
-    assert_eq!(rt; bits(&rt, &both, "print"), (Some(17), None));
-    assert_eq!(rt; bits(&rt, &both, "sign"), (None, Some(17)));
-    assert_eq!(rt; bits(&rt, &both, "review"), (Some(16), Some(16)));
+    has_bits(&rt, &both, "print", (Some(17), None));
+    has_bits(&rt, &both, "sign", (None, Some(17)));
+    has_bits(&rt, &both, "review", (Some(16), Some(16)));
     Ok(())
 }
 

@@ -9,4 +9,6 @@ mod printing;
 #[cfg(test)]
 mod reading;
 #[cfg(test)]
+mod requests;
+#[cfg(test)]
 mod session;

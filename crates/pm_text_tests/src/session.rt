@@ -63,7 +63,7 @@ fn push_pieces(rt: &impl Abort, session: &mut Session, bytes: &[u8]) {
 
 #[test]
 fn lines_are_cut_at_line_feeds(rt: HostRuntime) -> Result<(), Fail> {
-    let mut session = Session::new(rt.alloc(), 1024)?;
+    let mut session = Session::new(rt.alloc())?;
     assert!(rt; gives_none(&mut session));
     push(&rt, &mut session, b"a\nb\r\n\nrest");
     let all = gives_lines(&mut session, &[b"a", b"b\r", b""]);
@@ -73,7 +73,7 @@ fn lines_are_cut_at_line_feeds(rt: HostRuntime) -> Result<(), Fail> {
 
 #[test]
 fn replies_are_lines_of_output(rt: HostRuntime) -> Result<(), Fail> {
-    let mut session = Session::new(rt.alloc(), 1024)?;
+    let mut session = Session::new(rt.alloc())?;
     out_is(&rt, &session, b"");
     let names = OneName {
         name: Name::new(b"files").ok_or("a name")?,
@@ -97,7 +97,7 @@ fn sends(rt: &impl Abort, session: &mut Session, n: usize, left: &[u8]) {
 
 #[test]
 fn output_is_sent_part_by_part(rt: HostRuntime) -> Result<(), Fail> {
-    let mut session = Session::new(rt.alloc(), 1024)?;
+    let mut session = Session::new(rt.alloc())?;
     session.bad(None, 4, &BadLine::NotJson)?;
     sends(&rt, &mut session, 0, b"{\"no\":\"not_json\",\"v\":4}\n");
     sends(&rt, &mut session, 6, b"\"not_json\",\"v\":4}\n");
@@ -108,15 +108,16 @@ fn output_is_sent_part_by_part(rt: HostRuntime) -> Result<(), Fail> {
     Ok(())
 }
 
-// The line of a bad form has 24 bytes here.
+// The line of a bad form has 24 bytes here, so that 640 of them leave 1,024 of 16,384.
 #[test]
 fn there_is_room_for_a_reply_up_to_the_last_1024_bytes(rt: HostRuntime) -> Result<(), Fail> {
-    for (room, has_room) in [(1047, false), (1048, true)] {
-        let mut session = Session::new(rt.alloc(), room)?;
-        assert!(rt; session.has_room());
+    let mut session = Session::new(rt.alloc())?;
+    for _ in 0..640 {
         session.bad(None, 4, &BadLine::NotJson)?;
-        assert_eq!(rt; session.has_room(), has_room, "of {room}");
     }
+    assert!(rt; session.has_room());
+    session.bad(None, 4, &BadLine::NotJson)?;
+    assert!(rt; !session.has_room());
     Ok(())
 }
 
@@ -145,7 +146,7 @@ fn push_long(
 
 #[test]
 fn a_line_has_at_most_8192_bytes(rt: HostRuntime) -> Result<(), Fail> {
-    let mut session = Session::new(rt.alloc(), 1024)?;
+    let mut session = Session::new(rt.alloc())?;
     for (length, is_line) in [(8191, true), (8192, true), (8193, false)] {
         push_long(&rt, &mut session, length, is_line)?;
         assert!(rt; gives_lines(&mut session, &[b"next"]));
@@ -165,7 +166,7 @@ fn push_endless(rt: &(impl Abort + Alloc<A = Global>), session: &mut Session) ->
 
 #[test]
 fn a_line_without_end_takes_each_piece(rt: HostRuntime) -> Result<(), Fail> {
-    let mut session = Session::new(rt.alloc(), 1024)?;
+    let mut session = Session::new(rt.alloc())?;
     push_endless(&rt, &mut session)?;
     push(&rt, &mut session, b"x\nab\nc");
     assert!(rt; gives_too_long(&mut session));
@@ -196,7 +197,7 @@ fn lines_of(
     bytes: &[u8],
     more: &[u8],
 ) -> Result<Vec<u8>, Fail> {
-    let mut session = Session::new(rt.alloc(), 1024)?;
+    let mut session = Session::new(rt.alloc())?;
     let mut seen = Vec::new(rt.alloc());
     push_pieces(rt, &mut session, bytes);
     drain(&mut session, &mut seen)?;

@@ -9,13 +9,13 @@ use Rattle.clap.proofs.WalkLemmas.{both}
 use Rattle.pm_words.specs.Lists.{Wanted}
 use Rattle.pm_words.specs.Words.{AreWithin, Says, IsAsked}
 use Rattle.pm_words.specs.declared.words.Asked.{Asked}
-use Rattle.pm_words.specs.declared.words.Asked.TheVariants.{Run, Serve}
+use Rattle.pm_words.specs.declared.words.Asked.TheVariants.{Run, Generate, Serve}
 use Rattle.pm_words.proofs.Asking.{is_number, listed_by}
 
 -- what is asked for by a word and its numbers
 abbrev asked_by : List ℕ → List ℕ → Option Asked
 asked_by name [] = cond (bytes_eq (codes "run") name) (Some Run) None
-asked_by name (n ∷ []) = None
+asked_by name (n ∷ []) = cond (bytes_eq (codes "generate") name) (Some (Generate n)) None
 asked_by name (p ∷ w ∷ []) = cond (bytes_eq (codes "serve") name) (Some (Serve p w)) None
 asked_by name (n ∷ m ∷ k ∷ ns) = None
 
@@ -28,6 +28,7 @@ record Asks (words : List (List ℕ)) (asked : Asked) : Type 0 where
 
 asks : (words : List (List ℕ)) (asked : Asked) → IsAsked words (Some asked) → Asks words asked
 asks words Run says = record { name = codes "run"; numbers = []; says = says; is = refl }
+asks words (Generate n) says = record { name = codes "generate"; numbers = n ∷ []; says = says; is = refl }
 asks words (Serve p w) says = record { name = codes "serve"; numbers = p ∷ w ∷ []; says = says; is = refl }
 
 abbrev AreSmall : List ℕ → Type 0

@@ -15,9 +15,9 @@ use Rattle.clap.specs.declared.parser.matches.Found.{Found}
 use Rattle.clap.proofs.SimpleLemmas.{is_false}
 use Rattle.clap.proofs.WalkLemmas.{both, first_value-rows}
 use Rattle.pm_words.specs.Lists.{Wanted, Entry}
-use Rattle.pm_words.specs.declared.grammar.TheConstants.{PORT, WORKERS}
+use Rattle.pm_words.specs.declared.grammar.TheConstants.{PORT, SIZE, WORKERS}
 use Rattle.pm_words.specs.Told.{IsValue, Tells, value_rows}
-use Rattle.pm_words.specs.Words.{AreWithin, Says, IsRun, IsServe, IsOther, entry_named}
+use Rattle.pm_words.specs.Words.{AreWithin, Says, IsRun, IsGenerate, IsServe, IsOther, entry_named}
 use Rattle.pm_words.proofs.Asking.{well_made}
 use Rattle.pm_words.proofs.Behind.{are_apart}
 use Rattle.pm_words.proofs.Placed.{has_label, same_bytes}
@@ -146,6 +146,9 @@ fails_at found (v ∷ before) w ws (n ∷ ns) none read = fails_at found before 
 
 -- ---- the words that there are
 
+abbrev pub size : Wanted
+size = record { label = SIZE.0.now; least = SIZE.1; most = SIZE.2 }
+
 abbrev pub port : Wanted
 port = record { label = PORT.0.now; least = PORT.1; most = PORT.2 }
 
@@ -154,6 +157,13 @@ workers = record { label = WORKERS.0.now; least = WORKERS.1; most = WORKERS.2 }
 
 pub run_written_out : (words : List Text) → IsRun words ↔ (words ≡ codes "run" ∷ [])
 run_written_out words = ((λ is. is.told), (λ told. record { told = told; listed = tt }))
+
+pub generate_written_out : (words : List Text) (n : ℕ) → IsGenerate words n
+    ↔ ((words ≡ codes "generate" ∷ decimal n ∷ []) × (0 < n) × (n ≤ 200))
+generate_written_out words n = (
+  (λ is. let within : AreWithin (size ∷ []) (n ∷ []) = is.listed in (is.told, omega (arith, within.0), within.1)),
+  (λ is. record { told = is.0; listed = (omega (arith, is.1), is.2, tt) }),
+)
 
 pub serve_written_out : (words : List Text) (p w : ℕ) → IsServe words p w
     ↔ ((words ≡ codes "serve" ∷ decimal p ∷ decimal w ∷ []) × (p < 65536) × (0 < w) × (w ≤ 32))
@@ -171,11 +181,13 @@ differs a b other = by_test (bytes_eq a b) refl
     by_test false apart = apart
 
 -- a word that there is has one of the names
-pub other_told : (words : List Text) (name : Text) (rows : List Row) → Tells words name rows → (name ≡ codes "run" → ⊥) → (name ≡ codes "serve" → ⊥) → ⊥
-other_told words name rows t run serve =
+pub other_told : (words : List Text) (name : Text) (rows : List Row) → Tells words name rows → (name ≡ codes "run" → ⊥) → (name ≡ codes "generate" → ⊥)
+    → (name ≡ codes "serve" → ⊥) → ⊥
+other_told words name rows t run generate serve =
     let r = differs (codes "run") name run in
+    let g = differs (codes "generate") name generate in
     let s = differs (codes "serve") name serve in
-    let none : entry_named name ≡ None = rw (r, s) refl in
+    let none : entry_named name ≡ None = rw (r, g, s) refl in
     let some = t.named in
     absurd (cc (none, some))
 

@@ -10,7 +10,7 @@ use Rattle.std.specs.declared.io.ErrorKind.TheVariants.{OutOfMemory}
 use Rattle.std.specs.declared.vec.IntoIter.{IntoIter}
 use Rattle.pm_words.specs.Lists.{Wanted, Entry, entries}
 use Rattle.pm_words.specs.declared.words.Asked.{Asked}
-use Rattle.pm_words.specs.declared.words.Asked.TheVariants.{Run, Serve}
+use Rattle.pm_words.specs.declared.words.Asked.TheVariants.{Run, Generate, Serve}
 
 -- as many numbers as are wanted, each from its least to its most
 abbrev pub AreWithin : List Wanted → List ℕ → Type 0
@@ -31,6 +31,9 @@ pub record Says (words : List (List ℕ)) (name : List ℕ) (numbers : List ℕ)
 abbrev pub IsRun : List (List ℕ) → Type 0
 IsRun words = Says words (codes "run") []
 
+abbrev pub IsGenerate : List (List ℕ) → ℕ → Type 0
+IsGenerate words size = Says words (codes "generate") (size ∷ [])
+
 abbrev pub IsServe : List (List ℕ) → ℕ → ℕ → Type 0
 IsServe words port workers = Says words (codes "serve") (port ∷ workers ∷ [])
 
@@ -41,6 +44,7 @@ IsOther words = (name : List ℕ) (numbers : List ℕ) → ¬ (Says words name n
 -- the words ask for this
 abbrev pub IsAsked : List (List ℕ) → Option Asked → Type 0
 IsAsked words (Some Run) = IsRun words
+IsAsked words (Some (Generate size)) = IsGenerate words size
 IsAsked words (Some (Serve port workers)) = IsServe words port workers
 IsAsked words None = IsOther words
 
@@ -50,6 +54,9 @@ words_of args = map string_bytes (drop 1 (into_iter_items args))
 
 abbrev pub AskRun : Result (IntoIter (String Global) Global) Error → Type 0
 AskRun args = IsOkAnd args (λ words. IsRun (words_of words))
+
+abbrev pub AskGenerate : Result (IntoIter (String Global) Global) Error → ℕ → Type 0
+AskGenerate args size = IsOkAnd args (λ words. IsGenerate (words_of words) size)
 
 abbrev pub AskServe : Result (IntoIter (String Global) Global) Error → ℕ → ℕ → Type 0
 AskServe args port workers = IsOkAnd args (λ words. IsServe (words_of words) port workers)

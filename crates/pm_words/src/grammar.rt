@@ -8,9 +8,15 @@ pub type Wanted = (&'static str, u16, u16);
 /// A word, and the numbers behind it.
 pub type Entry = (&'static str, &'static [Wanted]);
 
+pub(crate) const SIZE: Wanted = ("N", 1, 200);
+
 pub(crate) const PORT: Wanted = ("PORT", 0, 65535);
 
 pub(crate) const WORKERS: Wanted = ("WORKERS", 1, 32);
 
 /// The words that there are: of this list the grammar, the usage line and the command that reads the words are made.
-pub const WORDS: [Entry; 2] = [("run", &[]), ("serve", &[PORT, WORKERS])];
+pub const WORDS: [Entry; 3] = [
+    ("run", &[]),
+    ("generate", &[SIZE]),
+    ("serve", &[PORT, WORKERS]),
+];

@@ -6,10 +6,10 @@ ghost use Rattle.std.specs.Vec.Iter.{into_iter_items};
 ghost use Rattle.clap.specs.Words.{found_of, kind_of, rows_of, subcommand_rows_of};
 ghost use Rattle.pm_words.specs.Lists.{wanted_of};
 ghost use Rattle.pm_words.specs.Told.{is_flag, IsValue, Tells, TellsMet};
-ghost use Rattle.pm_words.specs.Words.{words_of, AskRun, AskServe, AskOther, IsAsked};
+ghost use Rattle.pm_words.specs.Words.{words_of, AskRun, AskGenerate, AskServe, AskOther, IsAsked};
 
 use crate::command::make_command;
-use crate::grammar::{PORT, WORKERS, Wanted};
+use crate::grammar::{PORT, SIZE, WORKERS, Wanted};
 use clap::error::ErrorKind as Refusal;
 use clap::{ArgMatches, Error};
 use itoa::Buffer;
@@ -24,6 +24,8 @@ use std::io::ErrorKind;
 pub enum Asked {
     /// Replies to the lines of the input.
     Run,
+    /// A run of the generated policy of this size.
+    Generate { size: u16 },
     /// A server on this port, with so many workers.
     Serve { port: u16, workers: u16 },
 }
@@ -54,6 +56,14 @@ fn value(values: &ArgMatches<'_>, wanted: &Wanted) -> Option<u16>
     Some(value)
 }
 
+// The run that the value of `generate` asks for.
+fn generator(values: &ArgMatches<'_>) -> Option<Asked>
+    ensures { (words : List (List ℕ)) → Tells words (codes "generate") (rows_of (found_of values.now)) → IsAsked words result }
+{
+    let size = value(values, &SIZE)?;
+    Some(Asked::Generate { size })
+}
+
 // The server that the values of `serve` ask for.
 fn server(values: &ArgMatches<'_>) -> Option<Asked>
     ensures { (words : List (List ℕ)) → Tells words (codes "serve") (rows_of (found_of values.now)) → IsAsked words result }
@@ -69,6 +79,7 @@ fn told_by(name: &str, values: &ArgMatches<'_>) -> Option<Asked>
 {
     match name {
         "run" => Some(Asked::Run),
+        "generate" => generator(values),
         "serve" => server(values),
         _ => None,
     }
@@ -130,6 +141,7 @@ fn words_in(alloc: Global, mut args: Args) -> Result<Vec<String>, AllocError>
 /// To read them takes memory, and where there is none the words are not told.
 pub fn read_words(alloc: Global, args: io::Result<Args>) -> Result<Option<Asked>, Memory>
     ensures run { IfOk result (λ asked. (asked ≡ Some Asked.Run) ↔ AskRun args) }
+    ensures generate { (n : ℕ) → IfOk result (λ asked. (asked ≡ Some (Asked.Generate n)) ↔ AskGenerate args n) }
     ensures serve { (p w : ℕ) → IfOk result (λ asked. (asked ≡ Some (Asked.Serve p w)) ↔ AskServe args p w) }
     ensures other { IfOk result (λ asked. (asked ≡ None) ↔ AskOther args) }
     ensures memory { IfErr args (λ error. IsErr result ↔ (error_kind error ≡ ErrorKind.OutOfMemory)) }

@@ -1,5 +1,5 @@
 -- A seat's answer to one request or bad form, and its line.
-use Rattle.std.proofs.Common.{◌≡◌, ◌≢◌, ◌≤◌, ◌<◌, ◌+◌, ◌*◌, ℕ, zero, suc, List, [], ◌∷◌, ◌++◌, length, take, Some, None, IsSome, Bool, is_some, slice_get, Option, option_map, Result, Ok, Err, IsOk, OnOk, OnErr, refl, sym, ◌∙◌, ap, subst, arith, length-append, append_assoc}
+use Rattle.std.proofs.Common.{◌≡◌, ◌≢◌, ◌≤◌, ◌<◌, ◌+◌, ◌*◌, ℕ, zero, suc, List, [], ◌∷◌, ◌++◌, length, take, Some, None, IsSome, Bool, is_some, slice_get, Option, option_map, Result, Ok, Err, IsOk, OnOk, OnErr, refl, sym, ◌∙◌, ap, subst, arith, append_assoc}
 use Rattle.std.specs.Bool.{⊤}
 use Rattle.std.proofs.lemmas.List.{take_all, append-nil}
 use Rattle.std.proofs.lemmas.Option.{none-some, same_Some}
@@ -28,13 +28,14 @@ use Rattle.pm_session.specs.Streams.{Streams}
 use Rattle.pm_session.specs.Taken.{rest_of}
 use Rattle.pm_session.proofs.LineLaws.{IsCut-cut}
 use Rattle.pm_session.proofs.Listed.{list_leaves}
-use Rattle.pm_world.specs.Transcripts.{Exchange, answered, entered, faulted, what_of, reply_of, version_of, entry_of, entries_in, IsReplied, IsTranscript}
+use Rattle.pm_world.specs.Transcripts.{Exchange, answered, entered, faulted, reply_of, version_of, entry_of, IsReplied, IsTranscript}
 use Rattle.pm_world.proofs.Joined.{joined}
 use Rattle.pm_world.proofs.Single.{answered-here}
 use Rattle.pm_house.specs.Lanes.{Laned, lane}
 use Rattle.pm_house.specs.Seated.{Seated, Hears, Rests, Submits, Looks}
 use Rattle.pm_house.specs.declared.seat.Looked.TheVariants as looked
-use Rattle.pm_worker.specs.Told.{Told, names_at, told_line, reply_line, IsNoFault}
+use Rattle.pm_worker.specs.Shares.{share_of}
+use Rattle.pm_worker.specs.Told.{names_at, told_line, IsNoFault}
 use Rattle.pm_worker.specs.Answering.{next_asked, Speaks, Replies, Answers, Loses}
 
 -- ---- what is said
@@ -241,15 +242,17 @@ unprinted_rests Q s t w reply v output capacity (Err e) h room fits =
 
 -- ---- the line that was answered
 
-answers-by : (Q : Type 0) (o : Option (List ℕ × List ℕ)) (s t : Seated) (a b : Streams) (asked : Asked) (output : List ℕ) → cut a.waiting ≡ o
+answers-by : (Q : Type 0) (o : Option (List ℕ × List ℕ)) (s t : Seated) (a b : Streams) (asked : Asked) (output : List ℕ) (share : ℕ) → cut a.waiting ≡ o
     → Some asked ≡ option_map asked_at (option_map (λ (p : List ℕ × List ℕ). event_of p.0) o)
-    → b.waiting ≡ rest_of a.waiting o → output ≡ a.output → Replies Q s t asked output b.output → Answers Q s t a b
-answers-by Q None s t a b asked output is first rest same h = absurd (none-some asked (sym first))
-answers-by Q (Some p) s t a b asked output is first rest same h =
+    → b.waiting ≡ rest_of a.waiting o → output ≡ a.output → Replies Q s t asked output b.output → share ≡ share_of asked.what → (0 < share) × (share ≤ 64) → Answers Q s t a b share
+answers-by Q None s t a b asked output share is first rest same h takes within = absurd (none-some asked (sym first))
+answers-by Q (Some p) s t a b asked output share is first rest same h takes within =
     let asks : asked ≡ asked_at (event_of p.0) = same_Some asked (asked_at (event_of p.0)) first in
     let at = IsCut-cut a.waiting p is in
     record {
       told = record { line = p.0; exchange = h.exchange };
+      takes = takes ∙ ap (λ (x : Asked). share_of x.what) asks;
+      within = within;
       first = rw rest at;
       tells = record {
         seat = h.seat;
@@ -262,9 +265,10 @@ answers-by Q (Some p) s t a b asked output is first rest same h =
           ∙ ap (λ (x : Asked). a.output ++ told_line t.machine.history x h.exchange) asks;
     }
 
-pub replies_answers : (Q : Type 0) (s t : Seated) (a b : Streams) (asked : Asked) (output : List ℕ) → Some asked ≡ next_asked a.waiting
-    → b.waiting ≡ rest_of a.waiting (cut a.waiting) → output ≡ a.output → Replies Q s t asked output b.output → Answers Q s t a b
-replies_answers Q s t a b asked output first rest same h = answers-by Q (cut a.waiting) s t a b asked output refl first rest same h
+pub replies_answers : (Q : Type 0) (s t : Seated) (a b : Streams) (asked : Asked) (output : List ℕ) (share : ℕ) → Some asked ≡ next_asked a.waiting
+    → b.waiting ≡ rest_of a.waiting (cut a.waiting) → output ≡ a.output → Replies Q s t asked output b.output → share ≡ share_of asked.what → (0 < share) × (share ≤ 64) → Answers Q s t a b share
+replies_answers Q s t a b asked output share first rest same h takes within =
+    answers-by Q (cut a.waiting) s t a b asked output share refl first rest same h takes within
 
 pub on_ok_to : {T E P R : Type 0} (r : Result T E) → (P → R) → OnOk r P → OnOk r R
 on_ok_to (Ok x) f p = f p

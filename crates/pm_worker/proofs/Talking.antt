@@ -1,5 +1,5 @@
 -- Turns together.
-use Rattle.std.proofs.Common.{inl, inr, take, ◌≡◌, ◌≢◌, ◌≤◌, ◌+◌, ℕ, Bool, true, false, List, [], ◌∷◌, ◌++◌, length, map, All, Option, None, refl, sym, ◌∙◌, ap, subst, arith, append_assoc}
+use Rattle.std.proofs.Common.{inl, inr, take, ◌≡◌, ◌≢◌, ◌≤◌, ℕ, Bool, true, false, List, [], ◌∷◌, ◌++◌, length, map, refl, sym, ◌∙◌, ap, subst, append_assoc}
 use Rattle.std.proofs.lemmas.List.{append-nil, map-append}
 use Rattle.std.proofs.lemmas.Grind.{flat_map-append}
 use mathlib.Core.List.{IsPrefix}
@@ -12,7 +12,7 @@ use Rattle.pm_model.specs.Text.{text}
 use Rattle.pm_model.specs.declared.requests.Entry.{Entry}
 use Rattle.pm_world.specs.Transcripts.{reply_of, version_of, Rises}
 use Rattle.pm_world.proofs.Prefixes.{prefix-take, prefix-trans}
-use Rattle.pm_model.specs.Lines.{Event, event_of, events, shape, cut}
+use Rattle.pm_model.specs.Lines.{Event, event_of, shape}
 use Rattle.pm_laws.proofs.Items.{each-all}
 use Rattle.pm_session.specs.Cuts.{HasNoFeed, AreLines, joined}
 use Rattle.pm_session.specs.Streams.{Streams}

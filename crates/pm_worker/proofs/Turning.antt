@@ -1,9 +1,9 @@
 -- A turn, step after step.
-use Rattle.std.proofs.Common.{◌≡◌, ◌≢◌, ◌≤◌, ◌<◌, ◌+◌, ℕ, List, [], ◌∷◌, ◌++◌, length, map, take, Option, inl, inr, refl, sym, ◌∙◌, ap, subst, arith, append_assoc, length-append}
-use Rattle.std.specs.Prelude.{◌⊎◌, flat_map, ◌-◌, None, Some}
+use Rattle.std.proofs.Common.{◌≡◌, ◌≤◌, ◌<◌, ◌+◌, ℕ, List, [], ◌∷◌, ◌++◌, length, map, take, Option, inl, refl, sym, ◌∙◌, ap, subst, arith, append_assoc, length-append}
+use Rattle.std.specs.Prelude.{◌⊎◌, None, Some}
 use Rattle.std.proofs.lemmas.List.{append-nil, map-append, append_cancel_right}
 use Rattle.std.proofs.lemmas.Grind.{flat_map-append}
-use Rattle.std.specs.Io.KnownBytes.{Appends, Consumes, Keeps, IsAtEnd}
+use Rattle.std.specs.Io.KnownBytes.{Appends, Consumes}
 use mathlib.Core.List.{IsPrefix}
 use Rattle.pm_model.specs.Formed.{Each}
 use Rattle.pm_model.specs.History.{replay}
@@ -13,23 +13,30 @@ use Rattle.pm_model.specs.State.{name_numbered}
 use Rattle.pm_model.specs.Text.{text}
 use Rattle.pm_model.specs.declared.requests.Entry.{Entry}
 use Rattle.pm_laws.proofs.Items.{each-append}
-use Rattle.pm_session.specs.Cuts.{HasNoFeed, IsCut, joined}
-use Rattle.pm_session.specs.Streams.{Streams}
+use Rattle.pm_session.specs.Cuts.{joined}
+use Rattle.pm_session.specs.Streams.{Streams, HasReplyRoom}
 use Rattle.pm_session.proofs.Kept.{shape_from-line, shape-shape, shape-shape-append}
 use Rattle.pm_session.proofs.FirstLine.{shape-rest}
-use Rattle.pm_world.specs.Transcripts.{Exchange, reply_of, version_of, entry_of, entries_in, Rises, IsTranscript}
+use Rattle.pm_world.specs.Transcripts.{Exchange, reply_of, version_of, entries_in, Rises, IsTranscript}
 use Rattle.pm_world.proofs.Prefixes.{prefix-take}
 use Rattle.pm_world.proofs.Joined as join
-use Rattle.pm_io.specs.Wires.{Wire, IsLater, IsQuiet, HasFailed, HasNoneToRead}
+use Rattle.pm_io.specs.Wires.{Wire, IsLater, IsQuiet}
 use Rattle.pm_io.proofs.Known.{Appends-nil, Appends-append, Consumes-nil, Consumes-append, Consumes-kept}
 use Rattle.pm_house.specs.Lanes.{Laned}
 use Rattle.pm_house.specs.Seated.{Seated, Hears, Rests}
-use Rattle.pm_worker.specs.Told.{Told, lines_of, exchanges_of, reply_line, reply_lines, IsAnswered, Tells}
+use Rattle.pm_model.specs.declared.requests.Body.{Body}
+use Rattle.pm_model.specs.declared.requests.Body.TheVariants as body
+use Rattle.pm_model.specs.declared.requests.Question.{Question}
+use Rattle.pm_model.specs.declared.requests.Question.TheVariants as question
+use Rattle.pm_model.specs.declared.requests.What.{What}
+use Rattle.pm_model.specs.declared.requests.What.TheVariants as what
+use Rattle.pm_worker.specs.Shares.{share_of, share_of_body, share_of_question, share_taken}
+use Rattle.pm_worker.specs.Told.{Told, lines_of, exchanges_of, reply_line, reply_lines, longest_reply, IsAnswered, Tells}
 use Rattle.pm_worker.specs.Answering.{Answers, StaysPut, Loses}
 use Rattle.pm_worker.specs.Turns.{Sends, IsSent, IsClosed, Feeds, Starves, Turning, IsCaused, Serves}
 use Rattle.pm_worker.specs.declared.turns.Turn.{Turn}
 use Rattle.pm_worker.specs.declared.turns.Turn.TheVariants.{Idle, More, Ended, LinkFault, Memory}
-use Rattle.pm_worker.proofs.Wiring.{later-self, later-then, failed-then, none-then, room-then, quiet-then}
+use Rattle.pm_worker.proofs.Wiring.{later-self, later-then, failed-then, room-then, quiet-then}
 
 -- ---- what was told
 
@@ -118,6 +125,41 @@ input-fed Q a got bytes w x ts h kept input is =
     ∙ ap (λ (l : List ℕ). l ++ shape (w ++ bytes)) (joined-kept Q ts w h kept all)
     ∙ ap (λ (l : List ℕ). J ++ l) (sym is)
 
+-- the last reply is no longer than the longest
+longest-last : (G : List Entry) (ts : List Told) (t : Told) → length (reply_line G t) ≤ longest_reply G (ts ++ t ∷ [])
+longest-last G [] t = omega arith
+longest-last G (x ∷ xs) t = let h = longest-last G xs t in omega (arith, h)
+
+-- each line takes something
+question-some : (q : Question) → 0 < share_of_question q
+question-some (question.Survey users) = omega arith
+question-some (question.Caps user) = omega arith
+question-some (question.Entries element) = omega arith
+question-some (question.Kept review) = omega arith
+question-some (question.Changes review) = omega arith
+
+body-some : (b : Body) → 0 < share_of_body b
+body-some body.Version = omega arith
+body-some (body.OpenSession user) = omega arith
+body-some (body.CloseSession session) = omega arith
+body-some (body.StartProcess session) = omega arith
+body-some (body.EndProcess process) = omega arith
+body-some (body.Access process right target) = omega arith
+body-some (body.Admin process command) = omega arith
+body-some (body.Review process question) = question-some question
+
+share-some : (w : What) → 0 < share_of w
+share-some (what.Request request) = body-some request.body
+share-some (what.Bad form) = omega arith
+
+lines-least : (ts : List Told) → length ts ≤ share_taken ts
+lines-least [] = omega arith
+lines-least (t ∷ ts) = let one = share-some (asked_at (event_of t.line)).what in let others = lines-least ts in omega (arith, one, others)
+
+share-append : (ts : List Told) (t : Told) → share_taken (ts ++ t ∷ []) ≡ share_taken ts + share_of (asked_at (event_of t.line)).what
+share-append [] t = omega arith
+share-append (x ∷ xs) t = let h = share-append xs t in omega (arith, h)
+
 -- ---- steps
 
 pub turning-begin : (Q : Type 0) (s : Seated) (a : Streams) (v : Wire) → Rests s s → shape a.waiting ≡ a.waiting → Turning Q s s a a v v 0 0
@@ -130,9 +172,11 @@ turning-begin Q s a v rests kept = record {
   later = later-self v;
   input = ap shape (append-nil a.waiting) ∙ kept;
   output = append-nil a.output;
+  short = omega arith;
   tells = tells-rest Q s s rests;
   kept = kept;
   answered = refl;
+  few = omega arith;
   read = refl;
 }
 
@@ -146,14 +190,16 @@ turning-sent Q s t a b c v w x n m h k = record {
   later = later-then v w x h.later k.later;
   input = h.input ∙ ap (λ (l : List ℕ). joined (lines_of h.told) ++ l) (sym k.waiting);
   output = h.output ∙ ap (λ (l : List ℕ). h.sent ++ l) k.split ∙ sym (append_assoc h.sent k.bytes c.output);
+  short = let before = h.short in let less = ap length k.split ∙ length-append k.bytes c.output in omega (arith, before, less);
   tells = h.tells;
   kept = ap shape k.waiting ∙ h.kept ∙ sym k.waiting;
   answered = h.answered;
+  few = h.few;
   read = h.read;
 }
 
-pub turning-answered : (Q : Type 0) (s t u : Seated) (a b c : Streams) (v w : Wire) (n m : ℕ) → Turning Q s t a b v w n m → Answers Q t u b c → Turning Q s u a c v w (n + 1) m
-turning-answered Q s t u a b c v w n m h k =
+pub turning-answered : (Q : Type 0) (s t u : Seated) (a b c : Streams) (v w : Wire) (n m k : ℕ) → Turning Q s t a b v w n m → n < 64 → HasReplyRoom b.output → Answers Q t u b c k → Turning Q s u a c v w (n + k) m
+turning-answered Q s t u a b c v w n m takes h left room k =
     let one = k.told ∷ [] in
     let G = t.machine.history in
     let H = u.machine.history in
@@ -179,9 +225,22 @@ turning-answered Q s t u a b c v w n m h k =
           ∙ append_assoc h.sent b.output (reply_lines H one)
           ∙ ap (λ (l : List ℕ). h.sent ++ (b.output ++ l)) (append-nil (reply_line H k.told))
           ∙ ap (λ (l : List ℕ). h.sent ++ l) (sym k.output);
+      short =
+          let last = longest-last H h.told k.told in
+          let both = ap length k.output ∙ length-append b.output (reply_line H k.told) in
+          omega (arith, room, last, both);
       tells = tells-then Q s t u h.told one h.tells k.tells;
       kept = shape-rest b.waiting k.told.line c.waiting k.first h.kept;
-      answered = let l = length-append h.told one in let q = h.answered in omega (arith, l, q);
+      answered =
+          let both = share-append h.told k.told in
+          let q = h.answered in
+          let e = k.takes in
+          omega (arith, both, q, e);
+      few =
+          let l = length-append h.told one in
+          let least = lines-least h.told in
+          let q = h.answered in
+          omega (arith, l, least, q, left);
       read = h.read;
     }
 
@@ -201,9 +260,11 @@ turning-fed Q s t a b c v w x n m k h feeds taken later same = record {
   later = later-then v w x h.later later;
   input = input-fed Q a.waiting h.got feeds.bytes b.waiting c.waiting h.told h.tells.answered h.kept h.input feeds.pushed;
   output = h.output ∙ ap (λ (l : List ℕ). h.sent ++ l) (sym same);
+  short = let before = h.short in let size = ap length same in omega (arith, before, size);
   tells = h.tells;
   kept = ap shape feeds.pushed ∙ shape-shape (b.waiting ++ feeds.bytes) ∙ sym feeds.pushed;
   answered = h.answered;
+  few = h.few;
   read = let l = length-append h.got feeds.bytes in let q = h.read in let r = feeds.count in omega (arith, l, q, r);
 }
 
@@ -219,15 +280,17 @@ turning-unfed Q s t a b c v w x n m h k taken later same = record {
   later = later-then v w x h.later later;
   input = h.input ∙ ap (λ (l : List ℕ). joined (lines_of h.told) ++ l) (sym k.waiting);
   output = h.output ∙ ap (λ (l : List ℕ). h.sent ++ l) (sym same);
+  short = let before = h.short in let size = ap length same in omega (arith, before, size);
   tells = h.tells;
   kept = ap shape k.waiting ∙ h.kept ∙ sym k.waiting;
   answered = h.answered;
+  few = h.few;
   read = h.read;
 }
 
 -- ---- ends
 
-pub serves-of : (Q : Type 0) (s t : Seated) (a b : Streams) (v w : Wire) (n m : ℕ) (turn : Turn) → Turning Q s t a b v w n m → n ≤ 64 → m ≤ 69632 → IsCaused turn b v w n m → Serves Q s t a b v w turn
+pub serves-of : (Q : Type 0) (s t : Seated) (a b : Streams) (v w : Wire) (n m : ℕ) (turn : Turn) → Turning Q s t a b v w n m → n ≤ 127 → m ≤ 69632 → IsCaused turn b v w n m → Serves Q s t a b v w turn
 serves-of Q s t a b v w n m turn h few short cause = record {
   told = h.told;
   got = h.got;
@@ -241,9 +304,11 @@ serves-of Q s t a b v w n m turn h few short cause = record {
   plain = tt;
   none = λ _. refl;
   output = h.output;
+  short = h.short;
   tells = h.tells;
   cause = subst (λ k. IsCaused turn b v w k (length h.got)) (sym h.answered) (subst (λ k. IsCaused turn b v w n k) (sym h.read) cause);
-  lines_most = let q = h.answered in omega (arith, q, few);
+  lines_most = h.few;
+  share_most = let q = h.answered in omega (arith, q, few);
   bytes_most = let q = h.read in omega (arith, q, short);
 }
 
@@ -263,20 +328,20 @@ closed-cause b v w x n m Memory q h share = tt
 
 -- the output couldn't be sent
 pub serves-stopped : (Q : Type 0) (s t : Seated) (a b c : Streams) (v w x : Wire) (n m : ℕ) (turn : Turn) → Turning Q s t a b v w n m → IsQuiet v w → Sends w x b c
-    → IsSent w x c.output (Some turn) → n ≤ 64 → m ≤ 69632 → Serves Q s t a c v x turn
+    → IsSent w x c.output (Some turn) → n ≤ 127 → m ≤ 69632 → Serves Q s t a c v x turn
 serves-stopped Q s t a b c v w x n m turn h quiet sends why few short =
     serves-of Q s t a c v x n m turn (turning-sent Q s t a b c v w x n m h sends) few short (sent-cause c v w x n m turn quiet why)
 
 -- the turn has had its share
 pub serves-closed : (Q : Type 0) (s t : Seated) (a b c : Streams) (v w x : Wire) (n m : ℕ) (turn : Turn) → Turning Q s t a b v w n m → IsQuiet v w → Sends w x b c
-    → IsClosed w x c.output turn → (64 ≤ n) ⊎ (65536 ≤ m) → n ≤ 64 → m ≤ 69632 → Serves Q s t a c v x turn
+    → IsClosed w x c.output turn → (64 ≤ n) ⊎ (65536 ≤ m) → n ≤ 127 → m ≤ 69632 → Serves Q s t a c v x turn
 serves-closed Q s t a b c v w x n m turn h quiet sends why share few short =
     serves-of Q s t a c v x n m turn (turning-sent Q s t a b c v w x n m h sends) few short (closed-cause c v w x n m turn quiet why share)
 
 -- there was no memory, and the output was sent as far as it went
 pub serves-lost : (Q : Type 0) (s t u : Seated) (a b c d : Streams) (v w x : Wire) (n m : ℕ) → Turning Q s t a b v w n m → Rests t u → Loses b.waiting c.waiting
-    → c.output ≡ b.output → Sends w x c d → n ≤ 64 → m ≤ 69632 → Serves Q s u a d v x Memory
-serves-lost Q s t u a b c d v w x n m h rests loses same k few short =
+    → HasReplyRoom b.output → c.output ≡ b.output → Sends w x c d → n ≤ 127 → m ≤ 69632 → Serves Q s u a d v x Memory
+serves-lost Q s t u a b c d v w x n m h rests loses room same k few short =
     let before : reply_lines u.machine.history h.told ≡ reply_lines t.machine.history h.told =
     lines-later t.machine.history u.machine.history (length s.machine.history) h.told rests.hears.grows h.tells.hears.rises in
     let all : Tells Q s u (h.told ++ []) = tells-then Q s t u h.told [] h.tells (tells-rest Q t u rests) in
@@ -297,9 +362,11 @@ serves-lost Q s t u a b c d v w x n m h rests loses same k few short =
       output =
           ap (λ (l : List ℕ). a.output ++ l) before ∙ h.output
           ∙ ap (λ (l : List ℕ). h.sent ++ l) (sym same ∙ k.split) ∙ sym (append_assoc h.sent k.bytes d.output);
+      short = let less = sym (ap length same) ∙ ap length k.split ∙ length-append k.bytes d.output in omega (arith, room, less);
       tells = subst (Tells Q s u) (append-nil h.told) all;
       cause = tt;
-      lines_most = let q = h.answered in omega (arith, q, few);
+      lines_most = h.few;
+      share_most = let q = h.answered in omega (arith, q, few);
       bytes_most = let q = h.read in omega (arith, q, short);
     }
 

@@ -1,5 +1,5 @@
 -- Bytes of the output that go to a link, piece after piece, and the link's counts.
-use Rattle.std.proofs.Common.{◌≡◌, ◌≤◌, ◌<◌, ℕ, List, [], ◌++◌, length, take, drop, Option, None, Some, refl, sym, ◌∙◌, ap, arith, append_assoc}
+use Rattle.std.proofs.Common.{◌≡◌, ℕ, List, [], ◌++◌, take, drop, refl, sym, ◌∙◌, ap, arith, append_assoc}
 use Rattle.std.proofs.lemmas.List.{take-append-drop}
 use Rattle.std.specs.Io.KnownBytes.{Appends, Keeps}
 use Rattle.pm_model.specs.Causes.{Rose}
@@ -48,7 +48,6 @@ sends-none v a = record {
   left = refl;
   later = later-self v;
   waiting = refl;
-  capacity = refl;
 }
 
 pub sending-begin : (v : Wire) (a : Streams) → Sending v v a a
@@ -56,8 +55,8 @@ sending-begin v a = record { sends = sends-none v a; quiet = quiet-self v }
 
 -- so many bytes more were taken
 pub sends-more : (u v w : Wire) (a b c : Streams) (n : ℕ) → Sends u v a b → Appends v.taken w.taken (take n b.output) → c.output ≡ drop n b.output
-    → w.left ≡ v.left → IsLater v w → c.waiting ≡ b.waiting → c.capacity ≡ b.capacity → Sends u w a c
-sends-more u v w a b c n h app is left later waits capacity = record {
+    → w.left ≡ v.left → IsLater v w → c.waiting ≡ b.waiting → Sends u w a c
+sends-more u v w a b c n h app is left later waits = record {
   bytes = h.bytes ++ take n b.output;
   appended = Appends-append u.taken v.taken w.taken h.bytes (take n b.output) h.appended app;
   split =
@@ -67,7 +66,6 @@ sends-more u v w a b c n h app is left later waits capacity = record {
   left = left ∙ h.left;
   later = later-then u v w h.later later;
   waiting = waits ∙ h.waiting;
-  capacity = capacity ∙ h.capacity;
 }
 
 -- nothing more was taken
@@ -79,5 +77,4 @@ sends-kept u v w a b h k left later = record {
   left = left ∙ h.left;
   later = later-then u v w h.later later;
   waiting = h.waiting;
-  capacity = h.capacity;
 }

@@ -1,7 +1,7 @@
 -- How one line is answered.
-use Rattle.std.specs.Prelude.{ℕ, None, ◌≡◌, ◌≤◌, ◌+◌, List, [], ◌∷◌, ◌++◌, length, Option, option_map}
+use Rattle.std.specs.Prelude.{ℕ, None, ◌≡◌, ◌<◌, ◌≤◌, ◌+◌, List, [], ◌∷◌, ◌++◌, length, Option, option_map}
 use Rattle.pm_model.specs.Formed.{Each}
-use Rattle.pm_model.specs.Lines.{cut}
+use Rattle.pm_model.specs.Lines.{cut, event_of}
 use Rattle.pm_model.specs.Solo.{asked_at}
 use Rattle.pm_model.specs.declared.requests.Asked.{Asked}
 use Rattle.pm_model.specs.declared.requests.What.{What}
@@ -11,6 +11,7 @@ use Rattle.pm_session.specs.Streams.{Streams}
 use Rattle.pm_session.specs.Taken.{first_event}
 use Rattle.pm_world.specs.Transcripts.{Exchange, what_of, reply_of, version_of, entry_of}
 use Rattle.pm_house.specs.Seated.{Seated, Hears}
+use Rattle.pm_worker.specs.Shares.{share_of}
 use Rattle.pm_worker.specs.Told.{Told, told_line, reply_line, IsNoFault, Tells}
 
 -- what the first line asks, where one waits
@@ -39,9 +40,11 @@ pub record Replies (calm : Type 0) (s t : Seated) (asked : Asked) (output now : 
   pub line_is : now ≡ output ++ told_line t.machine.history asked exchange
   pub no_fault : calm → IsNoFault exchange
 
--- the first line that waits was answered, and its reply stands behind the output
-pub record Answers (calm : Type 0) (s t : Seated) (a b : Streams) : Type 0 where
+-- the first line that waits was answered, which takes so much of a turn's share, and its reply stands behind the output
+pub record Answers (calm : Type 0) (s t : Seated) (a b : Streams) (share : ℕ) : Type 0 where
   pub told : Told
+  pub takes : share ≡ share_of (asked_at (event_of told.line)).what
+  pub within : (0 < share) × (share ≤ 64)
   pub first : IsCut a.waiting told.line b.waiting
   pub tells : Tells calm s t (told ∷ [])
   pub output : b.output ≡ a.output ++ reply_line t.machine.history told

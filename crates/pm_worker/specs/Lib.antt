@@ -1,4 +1,5 @@
 pub mod Told
+pub mod Shares
 pub mod Connected
 pub mod Answering
 pub mod Turns

@@ -1,5 +1,5 @@
 -- Lines that were answered: what each asked, what came of it, and the line that was told. The project's own.
-use Rattle.std.specs.Prelude.{ℕ, ◌≡◌, ◌+◌, List, [], ◌∷◌, ◌++◌, length, map, take, flat_map}
+use Rattle.std.specs.Prelude.{ℕ, ◌≡◌, ◌+◌, max, List, [], ◌∷◌, length, map, take, flat_map}
 use Rattle.pm_model.specs.State.{name_numbered}
 use Rattle.pm_model.specs.Formed.{Each}
 use Rattle.pm_model.specs.History.{replay}
@@ -37,6 +37,11 @@ reply_line G t = told_line G (asked_at (event_of t.line)) t.exchange
 -- the bytes of all the replies
 abbrev pub reply_lines : List Entry → List Told → List ℕ
 reply_lines G ts = flat_map (reply_line G) ts
+
+-- how many bytes the longest of the replies has
+abbrev pub longest_reply : List Entry → List Told → ℕ
+longest_reply G [] = 0
+longest_reply G (t ∷ ts) = max (length (reply_line G t)) (longest_reply G ts)
 
 -- it isn't told that a keeper has failed
 abbrev pub IsNoFault : Exchange → Type 0

@@ -1,5 +1,5 @@
 -- A turn of a connection. The project's own.
-use Rattle.std.specs.Prelude.{ℕ, ◌≡◌, ◌≢◌, ◌<◌, ◌≤◌, ◌⊎◌, List, [], ◌++◌, length, Option, None, Some}
+use Rattle.std.specs.Prelude.{ℕ, ◌≡◌, ◌≢◌, ◌<◌, ◌≤◌, ◌+◌, ◌⊎◌, max, List, [], ◌++◌, length, Option, None, Some}
 use Rattle.std.specs.Io.KnownBytes.{Appends, Consumes, Keeps, IsAtEnd}
 use Rattle.pm_model.specs.Formed.{Each}
 use Rattle.pm_model.specs.Lines.{shape, cut}
@@ -9,7 +9,9 @@ use Rattle.pm_io.specs.Wires.{Wire, IsLater, IsQuiet, HasFailed, HasNoneToRead, 
 use Rattle.pm_io.specs.declared.links.LinkRead.{LinkRead}
 use Rattle.pm_io.specs.declared.links.LinkRead.TheVariants as read
 use Rattle.pm_house.specs.Seated.{Seated}
-use Rattle.pm_worker.specs.Told.{Told, lines_of, reply_lines, Tells}
+use Rattle.pm_model.specs.declared.requests.Entry.{Entry}
+use Rattle.pm_worker.specs.Shares.{share_taken}
+use Rattle.pm_worker.specs.Told.{Told, lines_of, reply_lines, longest_reply, Tells}
 use Rattle.pm_worker.specs.declared.turns.Turn.{Turn}
 use Rattle.pm_worker.specs.declared.turns.Turn.TheVariants.{Idle, More, Ended, LinkFault, Memory}
 
@@ -21,7 +23,6 @@ pub record Sends (v w : Wire) (a b : Streams) : Type 0 where
   pub left : w.left ≡ v.left
   pub later : IsLater v w
   pub waiting : b.waiting ≡ a.waiting
-  pub capacity : b.capacity ≡ a.capacity
 
 -- why sending stopped: nothing is left to be sent, or the turn ends so
 abbrev pub IsSent : Wire → Wire → List ℕ → Option Turn → Type 0
@@ -58,8 +59,12 @@ IsFed v w a b read.End = Starves v w a b × IsAtEnd w.left × IsQuiet v w
 IsFed v w a b read.Again = Starves v w a b × HasNoneToRead v w
 IsFed v w a b read.Failed = Starves v w a b × HasFailed v w
 
--- what a turn has done so far: so many lines were answered, and so many bytes read
-pub record Turning (calm : Type 0) (s t : Seated) (a b : Streams) (v w : Wire) (lines total : ℕ) : Type 0 where
+-- what is left to be sent is no more than before, or than 16,384 bytes and one of these replies
+abbrev pub IsShort : List Entry → List Told → List ℕ → List ℕ → Type 0
+IsShort G told before now = length now ≤ max (length before) (16384 + longest_reply G told)
+
+-- what a turn has done so far: lines were answered that take so much of its share, and so many bytes read
+pub record Turning (calm : Type 0) (s t : Seated) (a b : Streams) (v w : Wire) (share total : ℕ) : Type 0 where
   pub told : List Told
   pub got : List ℕ
   pub sent : List ℕ
@@ -69,18 +74,20 @@ pub record Turning (calm : Type 0) (s t : Seated) (a b : Streams) (v w : Wire) (
   pub input : shape (a.waiting ++ got) ≡ joined (lines_of told) ++ b.waiting
   pub output : a.output ++ reply_lines t.machine.history told ≡ sent ++ b.output
   pub tells : Tells calm s t told
+  pub short : IsShort t.machine.history told a.output b.output
   pub kept : shape b.waiting ≡ b.waiting
-  pub answered : length told ≡ lines
+  pub answered : share_taken told ≡ share
+  pub few : length told ≤ 64
   pub read : length got ≡ total
 
 -- when each answer comes: a count of the link rises exactly where the answer says so
 abbrev pub IsCaused : Turn → Streams → Wire → Wire → ℕ → ℕ → Type 0
-IsCaused Idle b v w lines total =
+IsCaused Idle b v w share total =
     ((0 < length b.output) × HasNoRoom v w) ⊎ ((b.output ≡ []) × (cut b.waiting ≡ None) × HasNoneToRead v w)
-IsCaused More b v w lines total = ((64 ≤ lines) ⊎ (65536 ≤ total)) × (b.output ≡ []) × IsQuiet v w
-IsCaused Ended b v w lines total = IsAtEnd w.left × (cut b.waiting ≡ None) × (b.output ≡ []) × IsQuiet v w
-IsCaused LinkFault b v w lines total = HasFailed v w
-IsCaused Memory b v w lines total = Unit {0}
+IsCaused More b v w share total = ((64 ≤ share) ⊎ (65536 ≤ total)) × (b.output ≡ []) × IsQuiet v w
+IsCaused Ended b v w share total = IsAtEnd w.left × (cut b.waiting ≡ None) × (b.output ≡ []) × IsQuiet v w
+IsCaused LinkFault b v w share total = HasFailed v w
+IsCaused Memory b v w share total = Unit {0}
 
 -- a whole turn
 pub record Serves (calm : Type 0) (s t : Seated) (a b : Streams) (v w : Wire) (turn : Turn) : Type 0 where
@@ -98,8 +105,10 @@ pub record Serves (calm : Type 0) (s t : Seated) (a b : Streams) (v w : Wire) (t
   pub plain : Each HasNoFeed lost
   pub none : turn ≢ Memory → lost ≡ []
   pub output : a.output ++ reply_lines t.machine.history told ≡ sent ++ b.output
+  pub short : IsShort t.machine.history told a.output b.output
   pub tells : Tells calm s t told
-  pub cause : IsCaused turn b v w (length told) (length got)
+  pub cause : IsCaused turn b v w (share_taken told) (length got)
   -- it isn't longer than its share
   pub lines_most : length told ≤ 64
+  pub share_most : share_taken told ≤ 127
   pub bytes_most : length got ≤ 69632

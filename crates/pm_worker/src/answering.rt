@@ -1,6 +1,6 @@
 //! A line that waits is answered by a seat.
 
-ghost use Rattle.std.specs.Prelude.{◌≡◌, ◌≤◌, ◌+◌, ◌++◌, length, is_some, IsOk, OnOk, OnErr, IfOk, MatchBool};
+ghost use Rattle.std.specs.Prelude.{◌≡◌, ◌≤◌, ◌+◌, ◌++◌, length, is_some, IsOk, OnOk, OnErr, IfOk, MatchOption};
 ghost use Rattle.pm_model.specs.State.{element_at, name_numbered};
 ghost use Rattle.pm_model.specs.Formed.{IsWellFormed};
 ghost use Rattle.pm_model.specs.History.{IsReplayed};
@@ -9,16 +9,17 @@ ghost use Rattle.pm_model.specs.Nameable.{IsNameable};
 ghost use Rattle.pm_model.specs.Solo.{asked_at};
 ghost use Rattle.pm_model.specs.declared.requests.What.TheVariants as what;
 ghost use Rattle.pm_print.specs.Growth.{reply_most};
+ghost use Rattle.pm_session.specs.Streams.{HasReplyRoom};
 ghost use Rattle.pm_session.specs.Taken.{shown, LeavesRest};
 ghost use Rattle.pm_house.specs.Desks.{NeverFails};
 ghost use Rattle.pm_house.specs.Seated.{Rests};
 ghost use Rattle.pm_worker.specs.Answering.{next_asked, Speaks, Replies, Answers, StaysPut, Loses};
 
 use crate::gates::{Gate, Phase};
+use crate::shares::share_of;
 use pm_house::{Home, House, Looked, Replied, Seat};
 use pm_machine::Version;
 use pm_model::{Asked, BadLine, Keep, LineEvent, Memory, Reply, Request, What};
-use pm_print::LONGEST_REPLY;
 use pm_read::read_request;
 use pm_session::Session;
 use std::alloc::Global;
@@ -99,8 +100,7 @@ fn put<V: Version, H: Home>(
     requires { IsNameable (λ n. is_some (element_at seat.now.machine.graph.elements n)) spoken.now.reply }
     ensures ok { OnOk result (session.new.output ≡ session.old.output ++ text id spoken.now.version (name_numbered seat.now.machine.graph.elements) spoken.now.reply) }
     ensures err { OnErr result (session.new.output ≡ session.old.output) }
-    ensures fits { length session.old.output + reply_most spoken.now.reply ≤ session.old.capacity → IsOk result }
-    ensures capacity { session.old.capacity ≤ session.new.capacity }
+    ensures fits { length session.old.output + reply_most spoken.now.reply ≤ 16384 → IsOk result }
     ensures waiting { session.new.waiting ≡ session.old.waiting }
 {
     let shown = seat.shown();
@@ -127,11 +127,10 @@ fn answer<V: Version, K: Keep + Drop, H: Home, R: Threads + Wait + Sync>(
     session: &mut Session,
     asked: &Asked,
 ) -> Result<(), Memory>
-    requires { length session.old.output + LONGEST_REPLY ≤ session.old.capacity }
+    requires { HasReplyRoom session.old.output }
     ensures ok { OnOk result (Replies (NeverFails K.faults) seat.old seat.new asked.now session.old.output session.new.output) }
     ensures err { OnErr result (Rests seat.old seat.new) }
     ensures kept { OnErr result (session.new.output ≡ session.old.output) }
-    ensures capacity { session.old.capacity ≤ session.new.capacity }
     ensures waiting { session.new.waiting ≡ session.old.waiting }
 {
     let spoken = speak(rt, alloc, house, seat, &asked.what)?;
@@ -165,7 +164,7 @@ fn take(alloc: Global, session: &mut Session) -> Result<Option<Asked>, Memory>
     }
 }
 
-/// Answers the first line that waits, and says whether there was one. On Memory it may wait no more, and
+/// Answers the first line that waits, and says how much of a turn's share it takes, if there was one. On Memory it may wait no more, and
 /// the seat was told nothing: its request wasn't accepted.
 pub(crate) fn answer_line<V: Version, K: Keep + Drop, H: Home, G: Gate, R: Threads + Wait + Sync>(
     rt: &R,
@@ -174,23 +173,22 @@ pub(crate) fn answer_line<V: Version, K: Keep + Drop, H: Home, G: Gate, R: Threa
     seat: &mut Seat<V, H>,
     session: &mut Session,
     gate: &G,
-) -> Result<bool, Memory>
-    requires { length session.old.output + LONGEST_REPLY ≤ session.old.capacity }
-    ensures ok { IfOk result (λ b. MatchBool b (Answers (NeverFails K.faults) seat.old seat.new session.old session.new)
-        (StaysPut seat.old seat.new session.old session.new)) }
+) -> Result<Option<u32>, Memory>
+    requires { HasReplyRoom session.old.output }
+    ensures ok { IfOk result (λ share. MatchOption share (StaysPut seat.old seat.new session.old session.new)
+        (Answers (NeverFails K.faults) seat.old seat.new session.old session.new)) }
     ensures err { OnErr result (Rests seat.old seat.new) }
     ensures lost { OnErr result (Loses session.old.waiting session.new.waiting) }
     ensures kept { OnErr result (session.new.output ≡ session.old.output) }
-    ensures capacity { session.old.capacity ≤ session.new.capacity }
 {
     seat.still();
     match take(alloc, session)? {
-        None => Ok(false),
+        None => Ok(None),
         Some(asked) => {
             gate.pass(seat.number(), Phase::Taken);
             answer(rt, alloc, house, seat, session, &asked)?;
             gate.pass(seat.number(), Phase::Replied);
-            Ok(true)
+            Ok(Some(share_of(&asked.what)))
         }
     }
 }

@@ -8,9 +8,6 @@ use pm_session::Session;
 use std::alloc::Global;
 use std::marker::Model;
 
-// How many bytes of replies are written together, but for a review's.
-const TOGETHER: usize = 16384;
-
 /// A connection: its number, its link, and what has come of it and is to be sent. Contracts see these three.
 pub struct Conn<L> {
     number: u64,
@@ -19,14 +16,11 @@ pub struct Conn<L> {
 }
 
 impl<L> Model for Conn<L> {
-    ghost use Rattle.std.specs.Prelude.{◌≤◌};
     ghost use Rattle.pm_worker.specs.Connected.{Connected};
 
     ghost Value = { Connected L };
 
     ghost view = { λ c. record { number = c.number; link = c.link; session = c.session } };
-
-    ghost invariant = { λ c. 1024 ≤ c.session.capacity };
 }
 
 impl<L: Drop> Drop for Conn<L> {
@@ -42,9 +36,9 @@ impl<L: Drop> Drop for Conn<L> {
 impl<L: Drop> Conn<L> {
     /// A connection over this link. On Memory the link is dropped.
     pub fn new(alloc: Global, number: u64, link: L) -> Result<Conn<L>, Memory>
-        ensures { IfOk result (λ c. c ≡ record { number = number; link = link; session = record { waiting = []; output = []; capacity = TOGETHER } }) }
+        ensures { IfOk result (λ c. c ≡ record { number = number; link = link; session = record { waiting = []; output = [] } }) }
     {
-        let session = Session::new(alloc, TOGETHER)?;
+        let session = Session::new(alloc)?;
         Ok(Conn {
             number,
             link,

@@ -10,6 +10,7 @@ pub mod laws;
 mod list_feed;
 mod sending;
 mod serving;
+mod shares;
 mod turns;
 
 pub use conn::Conn;

@@ -1,13 +1,13 @@
 //! A connection's bytes, from its session to its link and back.
 
-ghost use Rattle.std.specs.Prelude.{◌≡◌, ◌≤◌, ◌+◌, [], None, length, IfNone};
+ghost use Rattle.std.specs.Prelude.{◌≡◌, [], None, IfNone};
 ghost use Rattle.pm_model.specs.Lines.{cut};
 ghost use Rattle.pm_io.specs.Wires.{IsLater};
+ghost use Rattle.pm_session.specs.Streams.{HasReplyRoom};
 ghost use Rattle.pm_worker.specs.Turns.{Sends, IsSent, IsClosed, IsFed};
 
 use crate::turns::Turn;
 use pm_io::{Link, LinkRead, LinkWrite};
-use pm_print::LONGEST_REPLY;
 use pm_session::Session;
 
 /// Writes the output until none is left. Else the turn ends: Idle where the link takes no more now, LinkFault where it
@@ -29,10 +29,9 @@ pub(crate) fn send<L: Link>(link: &mut L, session: &mut Session) -> Option<Turn>
 
 /// Room for a reply: where it is lacking, the output is sent.
 pub(crate) fn make_room<L: Link>(link: &mut L, session: &mut Session) -> Option<Turn>
-    requires { LONGEST_REPLY ≤ session.old.capacity }
     ensures sends { Sends (L.wire link.old) (L.wire link.new) session.old session.new }
     ensures why { IsSent (L.wire link.old) (L.wire link.new) session.new.output result }
-    ensures room { IfNone result (length session.new.output + LONGEST_REPLY ≤ session.new.capacity) }
+    ensures room { IfNone result (HasReplyRoom session.new.output) }
 {
     if session.has_room() {
         return None;
@@ -58,7 +57,6 @@ pub(crate) fn feed<L: Link>(link: &mut L, session: &mut Session) -> LinkRead
     ensures taken { (L.wire link.new).taken ≡ (L.wire link.old).taken }
     ensures later { IsLater (L.wire link.old) (L.wire link.new) }
     ensures output { session.new.output ≡ session.old.output }
-    ensures capacity { session.new.capacity ≡ session.old.capacity }
 {
     let mut piece = [0u8; 4096];
     let target = &mut piece[..];

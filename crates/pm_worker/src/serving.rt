@@ -1,6 +1,6 @@
 //! A turn.
 
-ghost use Rattle.std.specs.Prelude.{◌≡◌, ◌≤◌};
+ghost use Rattle.std.specs.Prelude.{◌≡◌};
 ghost use Rattle.pm_house.specs.Desks.{NeverFails};
 ghost use Rattle.pm_worker.specs.Turns.{Serves};
 
@@ -8,12 +8,12 @@ use crate::answering::answer_line;
 use crate::conn::Conn;
 use crate::gates::Gate;
 use crate::sending::{close, feed, make_room, send};
+use crate::shares::WHOLE;
 use crate::turns::Turn;
 use pm_house::{Home, House, Seat};
 use pm_io::{Link, LinkRead};
 use pm_machine::Version;
 use pm_model::{Keep, Memory};
-use pm_print::LONGEST_REPLY;
 use pm_session::Session;
 use std::alloc::Global;
 use std::sync::Wait;
@@ -29,30 +29,28 @@ fn serve<L: Link, V: Version, K: Keep + Drop, H: Home, G: Gate, R: Threads + Wai
     session: &mut Session,
     gate: &G,
 ) -> Turn
-    requires room { LONGEST_REPLY ≤ session.old.capacity }
-    ensures serves { Serves (NeverFails K.faults) seat.old seat.new session.old session.new (L.wire link.old) (L.wire link.new) result }
-    ensures capacity { LONGEST_REPLY ≤ session.new.capacity }
+    ensures { Serves (NeverFails K.faults) seat.old seat.new session.old session.new (L.wire link.old) (L.wire link.new) result }
 {
     seat.still();
     session.shaped();
     if let Some(turn) = send(link, session) {
         return turn;
     }
-    let mut lines = 0u32;
+    let mut share = 0u32;
     let mut total = 0usize;
     loop {
-        if lines == 64 || total >= 65536 {
+        if share >= WHOLE || total >= 65536 {
             return close(link, session);
         }
         if let Some(turn) = make_room(link, session) {
             return turn;
         }
         match answer_line(rt, alloc, house, seat, session, gate) {
-            Ok(true) => {
-                lines += 1;
+            Ok(Some(more)) => {
+                share += more;
                 continue;
             }
-            Ok(false) => {}
+            Ok(None) => {}
             Err(Memory) => {
                 let _sent = send(link, session);
                 return Turn::Memory;

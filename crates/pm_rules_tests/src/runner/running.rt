@@ -25,11 +25,11 @@ impl Acts for Noting {
 
     ghost history = { λ s. [] };
 
-    ghost judged = { λ s. 0 };
+    ghost done = { λ s w. 0 };
 
     ghost short = { λ s. s.short };
 
-    #[tactic(auto, using(crate::proofs::WorkedTurns::passed_by, crate::proofs::WorkedTurns::none_judged, crate::proofs::WorkedTurns::still_short, crate::proofs::WorkedTurns::now_short))]
+    #[tactic(auto, using(crate::proofs::WorkedTurns::passed_by, crate::proofs::WorkedTurns::none_done, crate::proofs::WorkedTurns::still_short, crate::proofs::WorkedTurns::now_short))]
     fn act(&mut self, place: Place) -> Result<(), ActError> {
         if self.asked.push(place).is_err() {
             self.short = true;

@@ -1,9 +1,10 @@
 //! How many rights are judged for kept reviews, by the rules: one for each pair in the region of a change and in the scope of
 //! a kept review.
 
-use super::responding::{Deed, oblige, reading};
+use super::responding::{Deed, is_read, oblige};
 use super::*;
 use pm_model::{Kind, Mode, ReviewOf, Subject};
+use pm_tally::Tally;
 
 fn given(command: Command) -> Request {
     Request {
@@ -84,6 +85,16 @@ fn unshare(rt: &(impl Threads + Abort + Sync), solo: &mut Solo) {
     accept(rt, solo, Command::Dissociate { ua, at });
 }
 
+// So many questions were asked of the judge.
+fn asked(rt: &impl Abort, solo: &Solo, count: u64) {
+    assert_eq!(rt; solo.asked(), count);
+}
+
+// So many rows were written.
+fn written(rt: &impl Abort, solo: &Solo, count: u64) {
+    assert_eq!(rt; solo.written(), count);
+}
+
 // Of ann and bob with `docs` and the memo three pairs are of ann or of the memo, one of both.
 #[test]
 fn a_pair_of_two_reviews_is_judged_once(rt: HostRuntime) {
@@ -92,21 +103,37 @@ fn a_pair_of_two_reviews_is_judged_once(rt: HostRuntime) {
     keep_caps(&rt, &mut solo, named(&rt, "ann"));
     keep_entries(&rt, &mut solo, named(&rt, "memo"));
     hold_and_lift(&rt, &mut solo);
-    assert_eq!(rt; solo.state().asked(), 0);
+    asked(&rt, &solo, 0);
     unshare(&rt, &mut solo);
-    assert_eq!(rt; solo.state().asked(), 3);
+    asked(&rt, &solo, 3);
+}
+
+// One for the class and two for each of the five others; then those of `staff` and the two who are in it.
+#[test]
+fn rows_of_creations_and_of_an_assignment(rt: HostRuntime) {
+    let mut solo = Solo::opening(rt.alloc()).expect(&rt, "memory");
+    make_office(&rt, &mut solo);
+    written(&rt, &solo, 11);
+    make_class(&rt, &mut solo, "more");
+    let from = named(&rt, "staff");
+    let to = named(&rt, "more");
+    accept(&rt, &mut solo, Command::Assign { from, to });
+    written(&rt, &solo, 15);
+    assert_eq!(rt; solo.live(), 10);
 }
 
 // The new attribute that the response makes is one more that root may have rights on.
 #[test]
 fn what_responses_change_is_judged(rt: HostRuntime) {
     let mut solo = Solo::opening(rt.alloc()).expect(&rt, "memory");
-    answer(&rt, &mut solo, &request(&rt, None, Ask::Allow));
+    give(&rt, &mut solo, request(&rt, None, Ask::Allow));
     keep_caps(&rt, &mut solo, named(&rt, "root"));
-    answer(&rt, &mut solo, &oblige(&rt, "log", "read", &[Deed::Make]));
-    assert_eq!(rt; solo.state().asked(), 0);
-    assert_eq!(rt; reading(&rt, &mut solo), (None, Fired(1), 4));
-    assert_eq!(rt; solo.state().asked(), 1);
+    let log = oblige(&rt, "log", "read", &[Deed::Make]);
+    give(&rt, &mut solo, log);
+    asked(&rt, &solo, 0);
+    is_read(&rt, &mut solo, None, Fired(1), 4);
+    asked(&rt, &solo, 1);
+    written(&rt, &solo, 2);
 }
 
 // A letter and a number.
@@ -152,6 +179,6 @@ fn a_thousand_objects_beside_sixty_four_lists(rt: HostRuntime) {
     share_many(&rt, &mut solo, 1000);
     keep_many(&rt, &mut solo, 64);
     make_many(&rt, &mut solo, Kind::Object, "h", 1000, "d");
-    assert_eq!(rt; solo.version(), 3131);
-    assert_eq!(rt; solo.state().asked(), 64000);
+    assert!(rt; solo.version() == 3131);
+    asked(&rt, &solo, 64000);
 }

@@ -90,38 +90,40 @@ pub(super) fn reading(
     (seen, came, version)
 }
 
+// Root's reading itself comes to this.
+pub(super) fn is_read(
+    rt: &(impl Threads + Abort + Alloc<A = Global> + Sync),
+    solo: &mut Solo,
+    seen: Option<Told>,
+    came: Told,
+    version: u64,
+) {
+    assert_eq!(rt; reading(rt, solo), (seen, came, version));
+}
+
 #[test]
 fn an_access_is_an_entry_where_one_responds(rt: HostRuntime) {
     let mut solo = Solo::opening(rt.alloc()).expect(&rt, "memory");
-    answer(&rt, &mut solo, &request(&rt, None, Ask::Allow));
-    assert_eq!(rt; reading(&rt, &mut solo), (Some(Granted), Granted, 1));
-    answer(&rt, &mut solo, &oblige(&rt, "log", "read", &[Deed::Make]));
-    assert_eq!(rt; reading(&rt, &mut solo), (None, Fired(1), 3));
+    give(&rt, &mut solo, request(&rt, None, Ask::Allow));
+    is_read(&rt, &mut solo, Some(Granted), Granted, 1);
+    let log = oblige(&rt, "log", "read", &[Deed::Make]);
+    give(&rt, &mut solo, log);
+    is_read(&rt, &mut solo, None, Fired(1), 3);
     assert!(rt; has(&rt, &solo, "x3.1.1"));
-    answer(
-        &rt,
-        &mut solo,
-        &oblige(&rt, "bad", "read", &[Deed::Make, Deed::Spoil]),
-    );
-    assert_eq!(rt; reading(&rt, &mut solo), (None, Stopped(2), 4));
+    let bad = oblige(&rt, "bad", "read", &[Deed::Make, Deed::Spoil]);
+    give(&rt, &mut solo, bad);
+    is_read(&rt, &mut solo, None, Stopped(2), 4);
     assert!(rt; !has(&rt, &solo, "x5.1.1"));
 }
 
 #[test]
 fn a_withdrawn_one_does_not_respond(rt: HostRuntime) {
     let mut solo = Solo::opening(rt.alloc()).expect(&rt, "memory");
-    answer(
-        &rt,
-        &mut solo,
-        &oblige(&rt, "first", "withdraw", &[Deed::Make]),
-    );
-    answer(
-        &rt,
-        &mut solo,
-        &oblige(&rt, "second", "withdraw", &[Deed::Make]),
-    );
-    let came = answer(&rt, &mut solo, &withdraw(&rt, "first"));
-    assert_eq!(rt; came, (Fired(1), 3));
+    let first = oblige(&rt, "first", "withdraw", &[Deed::Make]);
+    give(&rt, &mut solo, first);
+    let second = oblige(&rt, "second", "withdraw", &[Deed::Make]);
+    give(&rt, &mut solo, second);
+    is_told(&rt, &mut solo, withdraw(&rt, "first"), Fired(1), 3);
     assert!(rt; has(&rt, &solo, "x3.1.1"));
     assert!(rt; !has(&rt, &solo, "x3.2.1"));
 }

@@ -1,6 +1,6 @@
 //! What entries change in kept reviews. Root is in `pm_admins`, and may read what is in it once it is allowed to.
 
-use super::responding::{Deed, oblige, reading};
+use super::responding::{Deed, is_read, oblige};
 use super::*;
 use pm_model::{Kind, Mode, ReviewOf, Subject};
 
@@ -86,15 +86,6 @@ fn kept_request(rt: &(impl Abort + Alloc<A = Global>), of_kept: OfKept) -> Reque
     }
 }
 
-fn told(
-    rt: &(impl Threads + Abort + Alloc<A = Global> + Sync),
-    solo: &mut Solo,
-    of_kept: OfKept,
-) -> (Told, u64) {
-    let request = kept_request(rt, of_kept);
-    answer(rt, solo, &request)
-}
-
 // An entry that leaves the list leaves its last change, and a review that is made has none.
 static ENTRIES: &[(OfKept, Told, u64)] = &[
     (OfKept::KeepCaps("root"), Kept(0), 1),
@@ -117,8 +108,8 @@ fn all_are_told(
 ) {
     let mut solo = Solo::opening(rt.alloc()).expect(rt, "memory");
     for (of_kept, want, version) in entries {
-        let came = told(rt, &mut solo, *of_kept);
-        assert_eq!(rt; came, (*want, *version));
+        let request = kept_request(rt, *of_kept);
+        is_told(rt, &mut solo, request, *want, *version);
     }
 }
 
@@ -155,16 +146,27 @@ fn what_is_far_from_kept_reviews_leaves_them(rt: HostRuntime) {
     all_are_told(&rt, FAR);
 }
 
+// What changed last in the first kept review is told so.
+fn has_changed(
+    rt: &(impl Threads + Abort + Alloc<A = Global> + Sync),
+    solo: &mut Solo,
+    at: u64,
+    count: usize,
+    version: u64,
+) {
+    let request = kept_request(rt, OfKept::Changes(0));
+    is_told(rt, solo, request, Changed(at, count), version);
+}
+
 // What the response makes is told with the entry that it responds to.
 #[test]
 fn responses_are_told_of(rt: HostRuntime) {
     let mut solo = Solo::opening(rt.alloc()).expect(&rt, "memory");
-    told(&rt, &mut solo, OfKept::Other(Ask::Allow));
-    told(&rt, &mut solo, OfKept::KeepCaps("root"));
-    answer(&rt, &mut solo, &oblige(&rt, "log", "read", &[Deed::Make]));
-    let before = told(&rt, &mut solo, OfKept::Changes(0));
-    assert_eq!(rt; before, (Changed(0, 0), 3));
-    assert_eq!(rt; reading(&rt, &mut solo), (None, Fired(1), 4));
-    let after = told(&rt, &mut solo, OfKept::Changes(0));
-    assert_eq!(rt; after, (Changed(4, 1), 4));
+    give(&rt, &mut solo, request(&rt, None, Ask::Allow));
+    give(&rt, &mut solo, kept_request(&rt, OfKept::KeepCaps("root")));
+    let log = oblige(&rt, "log", "read", &[Deed::Make]);
+    give(&rt, &mut solo, log);
+    has_changed(&rt, &mut solo, 0, 0, 3);
+    is_read(&rt, &mut solo, None, Fired(1), 4);
+    has_changed(&rt, &mut solo, 4, 1, 4);
 }

@@ -34,33 +34,57 @@ const COUNTS: [(usize, Subject<Term, ProcessTerm>, Option<ResponseError>); 5] = 
     (33, NUMBERED, Some(ResponseError::TooManyActions)),
 ];
 
+/// So many prohibitions on someone.
+fn prohibitions(
+    rt: &(impl Abort + Alloc<A = Global>),
+    count: usize,
+    subject: &Subject<Term, ProcessTerm>,
+) -> Result<ActionList, Memory> {
+    let mut actions = ActionList::new(rt.alloc());
+    for _ in 0..count {
+        actions.push(prohibit(rt, subject)?)?;
+    }
+    Ok(actions)
+}
+
 #[test]
 fn a_response_has_limits(rt: HostRuntime) -> Result<(), Fail> {
     for (count, subject, want) in &COUNTS {
-        let mut actions = ActionList::new(rt.alloc());
-        for _ in 0..*count {
-            actions.push(prohibit(&rt, subject)?)?;
-        }
+        let actions = prohibitions(&rt, *count, subject)?;
         assert_eq!(rt; Response::new(actions).err(), *want);
     }
     Ok(())
 }
 
-#[test]
-fn holds_1024_obligations(rt: HostRuntime) -> Result<(), Fail> {
-    let on = named(&rt, "read");
-    let mut list = Obligations::new(rt.alloc());
+/// As many obligations as there may be, each by a name of its own.
+fn full_list(alloc: Global, on: Name) -> Result<Obligations, Fail> {
+    let mut list = Obligations::new(alloc);
     for action in 0..1024 {
         let place = Place {
             obligation: 1,
             action,
         };
-        list.oblige(item_of(rt.alloc(), fresh_name(place, 1), on)?)?;
+        list.oblige(item_of(alloc, fresh_name(place, 1), on)?)?;
     }
-    assert_eq!(rt; list.len(), 1024);
+    Ok(list)
+}
+
+#[test]
+fn holds_1024_obligations(rt: HostRuntime) -> Result<(), Fail> {
+    let on = named(&rt, "read");
+    let list = full_list(rt.alloc(), on)?;
+    assert!(rt; list.len() == 1024);
     let full = list.check_oblige(&item_of(rt.alloc(), on, on)?);
-    assert_eq!(rt; full, Err(ObligError::Full));
+    assert!(rt; full == Err(ObligError::Full));
+    Ok(())
+}
+
+#[test]
+fn a_name_is_taken_where_all_places_are(rt: HostRuntime) -> Result<(), Fail> {
+    let on = named(&rt, "read");
+    let mut list = full_list(rt.alloc(), on)?;
+    assert!(rt; list.len() == 1024);
     let taken = item_of(rt.alloc(), list.at(1023).name, on)?;
-    assert_eq!(rt; list.oblige(taken), Err(ObligError::NameTaken));
+    assert!(rt; list.oblige(taken) == Err(ObligError::NameTaken));
     Ok(())
 }

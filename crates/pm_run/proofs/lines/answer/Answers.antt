@@ -8,5 +8,5 @@ pub returns-clause-err : goal.returns-clause-err
 returns-clause-err g c =
     let told = c.in-Ok.ensures.ok in
     unprinted_leaves (state_of (g.M.Answerer.machine c.args.machine.now)) (state_of (g.M.Answerer.machine c.ask.new.self)) c.in-Request.request c.in-Ok.told.0
-    (length c.args.session.now.output) c.args.session.now.capacity c.reply.result
+    (length c.args.session.now.output) 16384 c.reply.result
     told.answered.reply told.answered.state c.requires c.reply.ensures.fits

@@ -4,7 +4,7 @@ use Rattle.pm_run.proofs.Answering.{answered-none, answered-line, answered-moved
 use Rattle.pm_run.proofs.lines.answer_waiting.Goals as goal
 
 pub loop-asked-init : goal.loop-asked-init
-loop-asked-init g c = record { answered = answered-none _ _ _ _ c.requires.sent; room = c.requires.room; kept = refl }
+loop-asked-init g c = record { answered = answered-none _ _ _ _ c.requires; kept = refl }
 
 pub returns-in_err-asked-clause-memory : goal.returns-in_err-asked-clause-memory
 returns-in_err-asked-clause-memory g c = λ _.
@@ -35,8 +35,7 @@ loop-asked-preserved g c =
           answered-line _ _ _ _ _ (state_of (g.M.Answerer.machine c.loop-asked.machine)) _ _ c.loop-asked.session.waiting _ c.in-Some.asked
           (answered-moved _ _ _ _ _ _ _ _ _ _ k.answered c.in_ok-asked.ensures.output c.in_ok-make_room.ensures.ok)
           (next-line c.loop-asked.session.waiting c.in-Some.asked (rw c.in-Some.is at c.in_ok-asked.ensures.asked))
-          c.in_ok-answer.ensures.output c.in_ok-answer.ensures.state
+          c.in_ok-make_room.ensures.room c.in_ok-answer.ensures.output c.in_ok-answer.ensures.state
           (c.in_ok-answer.ensures.waiting ∙ c.in_ok-make_room.ensures.waiting ∙ c.in_ok-asked.ensures.waiting);
-      room = let a = k.room in let b = c.in_ok-answer.ensures.capacity in let d = c.in_ok-make_room.ensures.capacity in let e = c.in_ok-asked.ensures.capacity in omega arith;
       kept = c.in_ok-make_room.ensures.cause.kept ∙ k.kept;
     }

@@ -1,4 +1,4 @@
-use Rattle.std.proofs.Common.{◌≡◌, ◌≤◌, length}
+use Rattle.std.proofs.Common.{◌≡◌, length}
 use Rattle.pm_model.specs.History.{state_of}
 use Rattle.pm_run.specs.Coming.{coming}
 use Rattle.pm_run.specs.Wrote.{Answered}
@@ -9,7 +9,6 @@ invariant-loop-asked g l =
     record {
       answered : Answered (g.O.Sink.taken l.initial.out) (g.O.Sink.taken l.out) l.session.output
           (state_of (g.M.Answerer.machine l.initial.machine)) (state_of (g.M.Answerer.machine l.machine)) (coming l.initial.session.waiting) (coming l.session.waiting);
-      room : 1024 ≤ l.session.capacity;
       kept : g.O.Sink.faults l.out ≡ g.O.Sink.faults l.initial.out;
     }
 

@@ -8,7 +8,6 @@ pub loop-total-init : goal.loop-total-init
 loop-total-init g c = record {
   running = running-none _ _ _ _ _ (ap state_of c.requires.machine) (rw c.requires.session refl) (rw c.requires.session refl);
   within = omega arith;
-  room = rw c.requires.session (omega arith);
   read = refl;
   unended = refl;
   written = refl;
@@ -21,7 +20,6 @@ loop-total-preserved g c =
     record {
       running = running-more _ _ _ _ _ _ _ _ _ _ _ _ _ _ _ k.running more.consumed more.wrote more.drained more.sent (let l = more.long in omega arith);
       within = let w = more.within in let r = c.room.ensures in let t = c.loop-total-test.true in omega (arith, length-take {A = ℕ}, c.room.array_long);
-      room = more.room;
       read = more.read ∙ k.read;
       unended = more.unended ∙ k.unended;
       written = more.written ∙ k.written;

@@ -9,7 +9,6 @@ invariant-loop-total g l =
       running : Running (g.I.Source.left l.initial.source) (g.I.Source.left l.source) (g.O.Sink.taken l.initial.out) (g.O.Sink.taken l.out)
           (state_of (g.M.Answerer.machine l.machine)) l.session.waiting l.session.output l.total;
       within : l.total ≤ l.limit;
-      room : 1024 ≤ l.session.capacity;
       read : g.I.Source.faults l.source ≡ g.I.Source.faults l.initial.source;
       unended : g.I.Source.ends l.source ≡ g.I.Source.ends l.initial.source;
       written : g.O.Sink.faults l.out ≡ g.O.Sink.faults l.initial.out;

@@ -40,8 +40,8 @@ loop-i-preserved g c = record {
   short = c.in_ok-act_at.ensures.short ∙ or-false _ ∙ c.loop-i.invariant.short;
   made = act-done (g.A.Acts.occasion c.args.acts.now) c.args.obligation.now c.args.index c.loop-i.i (g.A.Acts.graph c.args.acts.now) (g.A.Acts.graph c.loop-i.acts)
       (g.A.Acts.graph c.act_at.new.acts) (omega (arith, ap length c.actions-actions.ensures.actions)) c.requires.due.stands c.loop-i.invariant.made (rw c.loop-i.invariant.same at c.in_ok-act_at.ensures.ok);
-  judged = act-counted (g.A.Acts.occasion c.args.acts.now) c.args.obligation.now c.args.index c.loop-i.i (g.A.Acts.graph c.args.acts.now) (g.A.Acts.graph c.loop-i.acts)
-      (g.A.Acts.judged c.args.acts.now) (g.A.Acts.judged c.loop-i.acts) (g.A.Acts.judged c.act_at.new.acts)
-      (omega (arith, ap length c.actions-actions.ensures.actions)) c.requires.due.stands c.loop-i.invariant.made c.loop-i.invariant.judged
-      (rw c.loop-i.invariant.same at c.in_ok-act_at.ensures.judged);
+  done = λ w. act-counted w (g.A.Acts.occasion c.args.acts.now) c.args.obligation.now c.args.index c.loop-i.i (g.A.Acts.graph c.args.acts.now) (g.A.Acts.graph c.loop-i.acts)
+      (g.A.Acts.done c.args.acts.now w) (g.A.Acts.done c.loop-i.acts w) (g.A.Acts.done c.act_at.new.acts w)
+      (omega (arith, ap length c.actions-actions.ensures.actions)) c.requires.due.stands c.loop-i.invariant.made (c.loop-i.invariant.done w)
+      (rw c.loop-i.invariant.same at (c.in_ok-act_at.ensures.done w));
 }

@@ -1,7 +1,7 @@
--- The actions so far have made the graph, and what is judged for them is counted.
+-- The actions so far have made the graph, and their work is counted.
 use Rattle.std.proofs.Common.{◌≡◌, ◌+◌, take, Ok}
-use Rattle.pm_affect.specs.Counting.{capped}
-use Rattle.pm_runner.specs.Turns.{judged_obliged, obliged}
+use Rattle.pm_affect.specs.Counting.{Work, capped}
+use Rattle.pm_runner.specs.Turns.{obliged, work_obliged}
 use Rattle.pm_runner.proofs.running.run_obligation.Given as goal
 
 abbrev pub invariant-loop-i : goal.invariant-loop-i
@@ -13,6 +13,6 @@ invariant-loop-i g l =
       short : g.A.Acts.short l.acts ≡ g.A.Acts.short l.fn.acts;
       made : obliged occasion l.obligation (l.index + 1) (g.A.Acts.graph l.fn.acts) (take l.i l.obligation.response)
           ≡ Ok (g.A.Acts.graph l.acts);
-      judged : capped (g.A.Acts.judged l.acts)
-          ≡ capped (g.A.Acts.judged l.fn.acts + judged_obliged occasion l.obligation (l.index + 1) (g.A.Acts.graph l.fn.acts) (take l.i l.obligation.response));
+      done : (w : Work) → capped (g.A.Acts.done l.acts w)
+          ≡ capped (g.A.Acts.done l.fn.acts w + work_obliged w occasion l.obligation (l.index + 1) (g.A.Acts.graph l.fn.acts) (take l.i l.obligation.response));
     }

@@ -47,9 +47,9 @@ loop-i-preserved g c = record {
       (g.A.Acts.graph c.loop-i.acts) (g.A.Acts.graph c.run_obligation.new.acts) c.at.result.now c.loop-i.invariant.same
       (stands_at _ _ _ c.loop-i.i c.at-place.result.now c.at.result.now c.requires.places c.at-place.ensures c.at.ensures)
       c.loop-i.invariant.made c.in_ok-run_obligation.ensures.ok;
-  judged = response-counted (g.A.Acts.occasion c.args.acts.now) (g.A.Acts.occasion c.loop-i.acts) c.loop-i.i (g.A.Acts.graph c.args.acts.now)
-      (g.A.Acts.graph c.loop-i.acts) c.at.result.now (g.A.Acts.judged c.args.acts.now) (g.A.Acts.judged c.loop-i.acts)
-      (g.A.Acts.judged c.run_obligation.new.acts) c.loop-i.invariant.same
+  done = λ w. response-counted w (g.A.Acts.occasion c.args.acts.now) (g.A.Acts.occasion c.loop-i.acts) c.loop-i.i (g.A.Acts.graph c.args.acts.now)
+      (g.A.Acts.graph c.loop-i.acts) c.at.result.now (g.A.Acts.done c.args.acts.now w) (g.A.Acts.done c.loop-i.acts w)
+      (g.A.Acts.done c.run_obligation.new.acts w) c.loop-i.invariant.same
       (stands_at _ _ _ c.loop-i.i c.at-place.result.now c.at.result.now c.requires.places c.at-place.ensures c.at.ensures)
-      c.loop-i.invariant.made c.loop-i.invariant.judged c.in_ok-run_obligation.ensures.judged;
+      c.loop-i.invariant.made (c.loop-i.invariant.done w) (c.in_ok-run_obligation.ensures.done w);
 }

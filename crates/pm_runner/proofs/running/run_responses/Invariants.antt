@@ -1,7 +1,7 @@
--- The responses so far have made the graph, and what is judged for them is counted.
+-- The responses so far have made the graph, and their work is counted.
 use Rattle.std.proofs.Common.{◌≡◌, ◌+◌, take, Ok}
-use Rattle.pm_affect.specs.Counting.{capped}
-use Rattle.pm_runner.specs.Turns.{judged_responded_by, responded_by}
+use Rattle.pm_affect.specs.Counting.{Work, capped}
+use Rattle.pm_runner.specs.Turns.{responded_by, work_responded_by}
 use Rattle.pm_runner.proofs.running.run_responses.Given as goal
 
 abbrev pub invariant-loop-i : goal.invariant-loop-i
@@ -12,6 +12,6 @@ invariant-loop-i g l =
       history : g.A.Acts.history l.acts ≡ g.A.Acts.history l.fn.acts;
       short : g.A.Acts.short l.acts ≡ g.A.Acts.short l.fn.acts;
       made : responded_by occasion (g.A.Acts.graph l.fn.acts) (take l.i occasion.obligations) ≡ Ok (g.A.Acts.graph l.acts);
-      judged : capped (g.A.Acts.judged l.acts)
-          ≡ capped (g.A.Acts.judged l.fn.acts + judged_responded_by occasion (g.A.Acts.graph l.fn.acts) (take l.i occasion.obligations));
+      done : (w : Work) → capped (g.A.Acts.done l.acts w)
+          ≡ capped (g.A.Acts.done l.fn.acts w + work_responded_by w occasion (g.A.Acts.graph l.fn.acts) (take l.i occasion.obligations));
     }

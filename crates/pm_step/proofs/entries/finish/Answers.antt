@@ -22,7 +22,7 @@ returns-in-Err-Full c =
     (rw (c.version.ensures.version) at c.in_ok-settle_reviews.ensures.ok) c.requires.asked
     c.args.entry refl (c.in_ok-settle_reviews.ensures.history ∙ c.requires.history) (c.in-Err-Full.ensures.full c.in-Err-Full.field-0-is)
 
-pub finish-requires-clause-asked : goal.finish-requires-clause-asked
-finish-requires-clause-asked c =
-    settled-counted c.args.state.now c.settle_reviews.new.draft c.args.draft c.args.entry c.replayed.ensures c.in_ok-settle_reviews.ensures.asked
-    (c.in_ok-settle_reviews.ensures.history ∙ c.requires.history) c.requires.judged
+pub finish-requires-clause-done : goal.finish-requires-clause-done
+finish-requires-clause-done c w =
+    settled-counted w c.args.state.now c.settle_reviews.new.draft c.args.draft c.args.entry c.replayed.ensures (c.in_ok-settle_reviews.ensures.done w)
+    (c.in_ok-settle_reviews.ensures.history ∙ c.requires.history) (c.requires.done w)

@@ -1,7 +1,7 @@
 use Rattle.std.proofs.Common.{refl}
 use Rattle.pm_model.specs.History.{state_of}
-use Rattle.pm_affect.specs.Counting.{capped, judged_by, judged_in}
-use Rattle.pm_step.proofs.Counted.{access-counted}
+use Rattle.pm_affect.specs.Counting.{capped, work_by, work_in}
+use Rattle.pm_step.proofs.Counted.{access-counted, begun-counted}
 use Rattle.pm_step.proofs.Placed.{access-settled, access-responders}
 use Rattle.pm_step.proofs.entries.respond_to_access.Goals as goal
 
@@ -17,9 +17,9 @@ settle-requires-clause-asked c =
     (access-settled (state_of c.args.state.now) c.args.event.now c.in_ok-places.places c.args.entry.request c.requires.asked c.requires.some
     (rw c.graph.ensures at c.in_ok-places.ensures.places))
 
-pub settle-requires-clause-judged : goal.settle-requires-clause-judged
-settle-requires-clause-judged c =
+pub settle-requires-clause-done : goal.settle-requires-clause-done
+settle-requires-clause-done c w =
     let M = c.args.state.now in
-    rw c.in_ok-draft.ensures
-    (access-counted (state_of M) c.args.event.now c.in_ok-places.places (judged_in M.history) (capped (judged_in M.history))
-    (judged_by (state_of M) c.args.entry.request) (rw c.graph.ensures at c.in_ok-places.ensures.places) refl c.requires.judged)
+    rw (c.in_ok-draft.ensures, begun-counted M w)
+    (access-counted w (state_of M) c.args.event.now c.in_ok-places.places (work_in w M.history) (capped (work_in w M.history))
+    (work_by w (state_of M) c.args.entry.request) (rw c.graph.ensures at c.in_ok-places.ensures.places) refl (c.requires.work w))

@@ -1,6 +1,7 @@
 use Rattle.pm_model.specs.History.{state_of}
-use Rattle.pm_affect.specs.Counting.{judged_by, judged_in}
-use Rattle.pm_step.proofs.Counted.{change-counted}
+use Rattle.pm_affect.specs.Counting.{work_by, work_in}
+use Rattle.pm_state.specs.Drafted.{done_in}
+use Rattle.pm_step.proofs.Counted.{begun-counted, change-counted}
 use Rattle.pm_step.proofs.Placed.{change-settled, change-responders}
 use Rattle.pm_step.proofs.entries.respond_to_change.Goals as goal
 
@@ -16,9 +17,10 @@ settle-requires-clause-asked c =
     (change-settled (state_of c.args.state.now) c.args.change.now c.args.event.now c.change.new.self.graph c.in_ok-places.places c.args.entry.request
     c.requires.asked (rw c.in_ok-draft.ensures at c.in-Ok.ensures.ok) (rw (c.graph.ensures, c.withdrawn.ensures) at c.in_ok-places.ensures.places))
 
-pub settle-requires-clause-judged : goal.settle-requires-clause-judged
-settle-requires-clause-judged c =
+pub settle-requires-clause-done : goal.settle-requires-clause-done
+settle-requires-clause-done c w =
     let M = c.args.state.now in
-    change-counted (state_of M) c.args.event.now c.change.new.self.graph c.in_ok-places.places c.args.change.now (judged_in M.history)
-    c.change.new.self.asked (judged_by (state_of M) c.args.entry.request) (rw c.in_ok-draft.ensures at c.in-Ok.ensures.ok)
-    (rw (c.graph.ensures, c.withdrawn.ensures) at c.in_ok-places.ensures.places) (rw c.in_ok-draft.ensures at c.in-Ok.ensures.asked) c.requires.judged
+    change-counted w (state_of M) c.args.event.now c.change.new.self.graph c.in_ok-places.places c.args.change.now (work_in w M.history)
+    (done_in c.change.new.self w) (work_by w (state_of M) c.args.entry.request) (rw c.in_ok-draft.ensures at c.in-Ok.ensures.ok)
+    (rw (c.graph.ensures, c.withdrawn.ensures) at c.in_ok-places.ensures.places)
+    (rw (begun-counted M w) at (rw c.in_ok-draft.ensures at (c.in-Ok.ensures.done w))) (c.requires.work w)

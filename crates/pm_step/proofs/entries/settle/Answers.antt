@@ -9,5 +9,5 @@ returns-in_ok-stopped-in-Err c =
     told-is (state_of c.args.state.now) c.args.entry.request c.in_ok-stopped-in-Err.field-0
     (c.requires.asked ∙ c.in_ok-stopped-in-Err.ensures c.args.state.now c.args.reply _ stop)
 
-pub finish-requires-clause-judged : goal.finish-requires-clause-judged
-finish-requires-clause-judged c = (rw (c.graph.ensures, c.version-version.ensures.version) at c.in-Ok.ensures.judged) ∙ c.requires.judged
+pub finish-requires-clause-done : goal.finish-requires-clause-done
+finish-requires-clause-done c w = (rw (c.graph.ensures, c.version-version.ensures.version) at (c.in-Ok.ensures.done w)) ∙ c.requires.done w

@@ -15,7 +15,7 @@ loop-place-preserved c = record {
       c.loop-place.invariant.graph (rw (c.len-place-end.ensures, c.kept.ensures, c.graph.ensures) at c.loop-place-test.true)
       c.in_ok-settle_at.ensures.ok;
   history = c.in_ok-settle_at.ensures.history ∙ c.loop-place.invariant.history;
-  asked = c.in_ok-settle_at.ensures.asked ∙ c.loop-place.invariant.asked;
+  done = λ w. c.in_ok-settle_at.ensures.done w ∙ c.loop-place.invariant.done w;
 }
 
 pub returns-clause-ok : goal.returns-clause-ok

@@ -15,8 +15,8 @@ returns-clause-ok g c =
     answered-on c.args.state.now c.advance.new.state _ c.in_ok-reply.reply (rw c.in_ok-next.ensures at c.in_ok-reply.ensures.ok)
     (λ same. c.if-version.false (c.version.ensures.version ∙ same ∙ sym c.version-2.ensures.version))
 
-pub returns-clause-judged : goal.returns-clause-judged
-returns-clause-judged g c =
+pub returns-clause-work : goal.returns-clause-work
+returns-clause-work g c =
     step_counted c.args.state.now (record { seat = c.args.seat; nth = c.args.nth; request = c.args.request.now })
     (Accepted c.advance.new.state c.in_ok-reply.reply) c.replayed.ensures
     (answered-on c.args.state.now c.advance.new.state _ c.in_ok-reply.reply (rw c.in_ok-next.ensures at c.in_ok-reply.ensures.ok)

@@ -2,7 +2,7 @@ use Rattle.std.proofs.Common.{◌≡◌, ◌∙◌, ap, subst, map, None, Some}
 use Rattle.std.specs.Prelude.{string_bytes}
 use Rattle.std.proofs.lemmas.Result.{IfOk-weaker}
 use Rattle.pm_words.specs.Words.{words_of, IsAsked}
-use Rattle.pm_words.specs.declared.words.Asked.TheVariants.{Run, Serve}
+use Rattle.pm_words.specs.declared.words.Asked.TheVariants.{Run, Generate, Serve}
 use Rattle.pm_words.proofs.Exactly.{exactly}
 use Rattle.pm_words.proofs.words.read_words.Goals.{After-drop-words}
 use Rattle.pm_words.proofs.words.read_words.Goals as goal
@@ -13,6 +13,10 @@ read_as c = ap (map string_bytes) (c.as_slice.ensures.value ∙ c.in_ok-words-in
 pub returns-in_ok-words-in-Ok-clause-run : goal.returns-in_ok-words-in-Ok-clause-run
 returns-in_ok-words-in-Ok-clause-run c =
     rw c.in-Ok.is (IfOk-weaker c.asked_in.result _ _ (λ asked is. exactly (words_of c.in-Ok.args) asked (Some Run) (subst (λ words. IsAsked words asked) (read_as c) is)) c.asked_in.ensures)
+
+pub returns-in_ok-words-in-Ok-clause-generate : goal.returns-in_ok-words-in-Ok-clause-generate
+returns-in_ok-words-in-Ok-clause-generate c n =
+    rw c.in-Ok.is (IfOk-weaker c.asked_in.result _ _ (λ asked is. exactly (words_of c.in-Ok.args) asked (Some (Generate n)) (subst (λ words. IsAsked words asked) (read_as c) is)) c.asked_in.ensures)
 
 pub returns-in_ok-words-in-Ok-clause-serve : goal.returns-in_ok-words-in-Ok-clause-serve
 returns-in_ok-words-in-Ok-clause-serve c p w =

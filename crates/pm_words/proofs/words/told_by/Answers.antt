@@ -9,6 +9,11 @@ returns-in-run c words tells =
     let found = found_of c.args.values.now in
     said_by words (codes "run") found (subst (λ name. Tells words name (rows_of found)) c.in-run.is tells) [] tt
 
+pub returns-in-generate : goal.returns-in-generate
+returns-in-generate c words tells =
+    let rows = rows_of (found_of c.args.values.now) in
+    c.generator.ensures words (subst (λ name. Tells words name rows) c.in-generate.is tells)
+
 pub returns-in-serve : goal.returns-in-serve
 returns-in-serve c words tells =
     let rows = rows_of (found_of c.args.values.now) in
@@ -16,4 +21,4 @@ returns-in-serve c words tells =
 
 pub returns-in_default : goal.returns-in_default
 returns-in_default c words tells =
-    absurd (other_told words c.args.name.now (rows_of (found_of c.args.values.now)) tells c.in_default.not-run c.in_default.not-serve)
+    absurd (other_told words c.args.name.now (rows_of (found_of c.args.values.now)) tells c.in_default.not-run c.in_default.not-generate c.in_default.not-serve)

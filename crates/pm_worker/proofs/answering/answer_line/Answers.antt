@@ -10,5 +10,5 @@ returns-in_err-answer-in-Some-clause-lost g c = on_err_of _ (loses-taken _ _ (c.
 
 pub returns-in_ok-answer-in-Some-clause-ok : goal.returns-in_ok-answer-in-Some-clause-ok
 returns-in_ok-answer-in-Some-clause-ok g c =
-    replies_answers _ _ _ _ _ _ _ (rw c.in-Some.is at c.in_ok-take.ensures.asked)
-    (c.answer.ensures.waiting ∙ c.take.ensures.rest.waiting) c.take.ensures.rest.output c.in_ok-answer-in-Some.ensures.ok
+    replies_answers _ _ _ _ _ _ _ _ (rw c.in-Some.is at c.in_ok-take.ensures.asked)
+    (c.answer.ensures.waiting ∙ c.take.ensures.rest.waiting) c.take.ensures.rest.output c.in_ok-answer-in-Some.ensures.ok c.share_of.ensures.exact c.share_of.ensures.within

@@ -1,4 +1,4 @@
-use Rattle.std.proofs.Common.{rules, ◌≡◌, ℕ, ◌∷◌, refl}
+use Rattle.std.proofs.Common.{rules, ◌≡◌, ◌∷◌, refl}
 use Rattle.pm_worker.proofs.Meeting.{met_all_of}
 use Rattle.pm_worker.proofs.crews.meet_all.Goals as goal
 

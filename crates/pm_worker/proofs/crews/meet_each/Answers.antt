@@ -1,4 +1,4 @@
-use Rattle.std.proofs.Common.{rules, ◌≡◌, ◌<◌, ◌≤◌, ℕ, arith, length}
+use Rattle.std.proofs.Common.{rules, ◌<◌, arith, length}
 use Rattle.pm_worker.proofs.Meeting.{works_rests, met_at, met_one_more, rest_left}
 use Rattle.pm_worker.proofs.crews.meet_each.Goals as goal
 

@@ -8,6 +8,6 @@ loop-link-preserved g c =
     let written = rw out at c.in-Took.ensures.written in
     let e = c.sent.ensures in
     record {
-      sends = sends-more _ _ _ _ _ _ c.in-Took.count h.sends written.2 e.output c.write.ensures.left c.write.ensures.later e.waiting e.capacity;
+      sends = sends-more _ _ _ _ _ _ c.in-Took.count h.sends written.2 e.output c.write.ensures.left c.write.ensures.later e.waiting;
       quiet = quiet-then _ _ _ h.quiet c.in-Took.ensures.counts;
     }

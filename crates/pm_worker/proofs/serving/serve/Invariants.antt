@@ -4,15 +4,14 @@ use Rattle.pm_house.specs.Desks.{NeverFails}
 use Rattle.pm_worker.specs.Turns.{Turning}
 use Rattle.pm_worker.proofs.serving.serve.Given as goal
 
-abbrev pub invariant-loop-lines : goal.invariant-loop-lines
-invariant-loop-lines g l =
+abbrev pub invariant-loop-share : goal.invariant-loop-share
+invariant-loop-share g l =
     record {
-      turning : Turning (NeverFails g.K.Keep.faults) l.fn.seat l.seat l.fn.session l.session (g.L.Link.wire l.fn.link) (g.L.Link.wire l.link) l.lines l.total;
+      turning : Turning (NeverFails g.K.Keep.faults) l.fn.seat l.seat l.fn.session l.session (g.L.Link.wire l.fn.link) (g.L.Link.wire l.link) l.share l.total;
       quiet : IsQuiet (g.L.Link.wire l.fn.link) (g.L.Link.wire l.link);
-      room : 1024 ≤ l.session.capacity;
-      few : l.lines ≤ 64;
+      few : l.share ≤ 127;
       short : l.total ≤ 69632;
     }
 
-abbrev pub decreases-loop-lines : goal.decreases-loop-lines
-decreases-loop-lines g l = (64 - l.lines) + (65536 - l.total)
+abbrev pub decreases-loop-share : goal.decreases-loop-share
+decreases-loop-share g l = (64 - l.share) + (65536 - l.total)

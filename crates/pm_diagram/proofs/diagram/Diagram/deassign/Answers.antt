@@ -1,4 +1,4 @@
-use Rattle.std.proofs.Common.{ap, refl}
+use Rattle.std.proofs.Common.{ap, ◌∙◌}
 use Rattle.std.proofs.lemmas.Bool.{not-false}
 use Rattle.std.specs.List.{list_any}
 use Rattle.pm_elements.specs.Listed.{Listed}
@@ -21,7 +21,7 @@ invariant_of-self-then-is_inside_beside c =
     let less = c.in_ok-deassign.ensures.ok in
     let stands = not-false (list_any (is_pair c.args.x c.args.y) table.assigned)
     (passed (deassign_checks table.assigned c.args.x c.args.y) c.in_ok-check_deassign.ensures.fits).0 in
-    rw (c.count.ensures.rows, ap (λ (v : Listed). v.elements) less, ap (λ (v : Listed). v.assigned) less)
+    rw (ap (λ (v : Listed). v.elements) less, ap (λ (v : Listed). v.assigned) less)
     (drawn-beside table.elements table.assigned c.self.inside.rows.rows c.self.invariant c.args.x c.args.y stands
     ((rw (← c.self.view_is) at c.is_inside_beside.ensures) c.if-is_inside_beside.true stands))
 
@@ -32,25 +32,12 @@ invariant_of-self-2 c =
     (drawn-deassigned c.self.inside.elements.elements c.self.inside.elements.assigned c.self.inside.rows.rows c.self.invariant c.args.x c.args.y
     c.follow_deassign.new.self.rows (rw (c.in_ok-prepare.ensures.rows, ap (λ (v : Listed). v.assigned) less) at c.follow_deassign.ensures.rows))
 
-pub returns-then-is_inside_beside-clause-ok : goal.returns-then-is_inside_beside-clause-ok
-returns-then-is_inside_beside-clause-ok c =
-    let made = c.in_ok-deassign.ensures.ok in
-    rw (← c.self.view_is) (rw (
-      ap (λ (v : Listed). v.elements) made,
-      ap (λ (v : Listed). v.assigned) made,
-      c.count.ensures.written,
-      c.in_ok-kept.ensures,
-      inside-listed c.self.inside.elements.elements c.self.inside.elements.assigned c.self.inside.rows.rows c.self.invariant c.args.x,
-    ) refl)
+pub returns-then-is_inside_beside-clause-count : goal.returns-then-is_inside_beside-clause-count
+returns-then-is_inside_beside-clause-count c =
+    rw (← c.self.view_is) (c.in_ok-kept.ensures
+    ∙ inside-listed c.self.inside.elements.elements c.self.inside.elements.assigned c.self.inside.rows.rows c.self.invariant c.args.x)
 
-pub returns-clause-ok : goal.returns-clause-ok
-returns-clause-ok c =
-    let made = c.in_ok-deassign-2.ensures.ok in
-    rw (← c.self.view_is) (rw (
-      ap (λ (v : Listed). v.elements) made,
-      ap (λ (v : Listed). v.assigned) made,
-      c.follow_deassign.ensures.written,
-      c.in_ok-prepare.ensures.written,
-      c.in_ok-prepare.ensures.rows,
-      inside-listed c.self.inside.elements.elements c.self.inside.elements.assigned c.self.inside.rows.rows c.self.invariant c.args.x,
-    ) refl)
+pub returns-clause-count : goal.returns-clause-count
+returns-clause-count c =
+    rw (← c.self.view_is) ((rw (c.in_ok-prepare.ensures.rows) at c.follow_deassign.ensures.count)
+    ∙ inside-listed c.self.inside.elements.elements c.self.inside.elements.assigned c.self.inside.rows.rows c.self.invariant c.args.x)

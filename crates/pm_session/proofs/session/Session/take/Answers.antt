@@ -13,15 +13,15 @@ returns-then-unread-self c =
     let behind = length-drop c.self.inside.start c.self.inside.waiting.items in
     let all : length (open_line waiting) ≡ length waiting = omega (arith, c.if-unread-self.true, c.len.ensures, behind, opened) in
     let plain : HasNoFeed waiting = HasNoFeed-open_line waiting all in
-    let holds = Holds-view _ _ _ _ c.self.view_is in
-    ((refl, (λ _. tt), LeavesRest-none _ _ _ _ holds plain), record { shows = first_event-none _ _ _ _ holds plain; after_borrow = tt })
+    let holds = Holds-view _ _ _ c.self.view_is in
+    ((refl, (λ _. tt), LeavesRest-none _ _ _ holds plain), record { shows = first_event-none _ _ _ holds plain; after_borrow = tt })
 
 pub returns-in_default : goal.returns-in_default
 returns-in_default c =
     let slice = c.deref.ensures.value in
     let plain : HasNoFeed (drop c.self.inside.start c.self.inside.waiting.items) = rw slice at c.in_default.ensures in
-    let holds = Holds-view _ _ _ _ c.self.view_is in
-    ((refl, (λ _. tt), LeavesRest-none _ _ _ _ holds plain), record { shows = first_event-none _ _ _ _ holds plain; after_borrow = tt })
+    let holds = Holds-view _ _ _ c.self.view_is in
+    ((refl, (λ _. tt), LeavesRest-none _ _ _ holds plain), record { shows = first_event-none _ _ _ holds plain; after_borrow = tt })
 
 pub invariant_of-self-2 : goal.invariant_of-self-2
 invariant_of-self-2 c =
@@ -32,6 +32,8 @@ invariant_of-self-2 c =
       within = c.self.invariant.within;
       room = c.self.invariant.room;
       kept = IsWaiting-rest _ _ _ _ c.self.invariant.kept found.1;
+      unsent = c.self.invariant.unsent;
+      together = c.self.invariant.together;
     }
 
 pub returns-then-line-gt-LONGEST : goal.returns-then-line-gt-LONGEST
@@ -41,8 +43,8 @@ returns-then-line-gt-LONGEST c =
     let line = c.part-line.ensures ∙ ap (λ (l : List ℕ). take c.in-Some.count (drop c.self.inside.start l)) c.deref-2.ensures.value in
     let long = c.if-line-gt-LONGEST.true in
     let event = sym (event_of-long _ (rw line at long)) in
-    let holds = Holds-view _ _ _ _ c.self.view_is in
-    ((refl, (λ _. tt), LeavesRest-some _ _ _ _ _ _ holds found.1), record { shows = first_event-some _ _ _ _ _ _ _ holds found.1 event; after_borrow = tt })
+    let holds = Holds-view _ _ _ c.self.view_is in
+    ((refl, (λ _. tt), LeavesRest-some _ _ _ _ _ holds found.1), record { shows = first_event-some _ _ _ _ _ _ holds found.1 event; after_borrow = tt })
 
 pub returns : goal.returns
 returns c =
@@ -51,5 +53,5 @@ returns c =
     let line = c.part-line.ensures ∙ ap (λ (l : List ℕ). take c.in-Some.count (drop c.self.inside.start l)) c.deref-2.ensures.value in
     let short = c.if-line-gt-LONGEST.false in
     let event = ap whole line ∙ sym (event_of-short _ (rw line at short)) in
-    let holds = Holds-view _ _ _ _ c.self.view_is in
-    ((refl, (λ _. tt), LeavesRest-some _ _ _ _ _ _ holds found.1), record { shows = first_event-some _ _ _ _ _ _ _ holds found.1 event; after_borrow = tt })
+    let holds = Holds-view _ _ _ c.self.view_is in
+    ((refl, (λ _. tt), LeavesRest-some _ _ _ _ _ holds found.1), record { shows = first_event-some _ _ _ _ _ _ holds found.1 event; after_borrow = tt })

@@ -9,5 +9,6 @@ invariant_of-result c = record {
   legal = c.requires.replayed.legal;
   limit = c.requires.limit;
   listed = c.requires.listed;
+  few = search;
   names = λ no. same-names (replay c.args.history.entries).graph c.args.graph (sym (ap (λ (S : State). S.graph.elements) c.requires.replayed.content));
 }

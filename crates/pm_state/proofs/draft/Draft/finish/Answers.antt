@@ -1,7 +1,7 @@
 use Rattle.std.proofs.Common.{◌≡◌, ◌∷◌, ◌++◌, [], sym, ap, ◌∙◌, subst, arith}
 use Rattle.pm_model.specs.History.{IsAnswered}
 use Rattle.pm_laws.proofs.Replayed.{grown}
-use Rattle.pm_affect.specs.Counting.{capped, judged_in}
+use Rattle.pm_affect.specs.Counting.{Judged, Written, capped, work_in}
 use Rattle.pm_affect.proofs.Counting.{capped-small}
 use Rattle.pm_state.specs.Drafted.{Drafted, asked_of, machine_in}
 use Rattle.pm_state.specs.KeptDraft.{drafted_of}
@@ -19,7 +19,14 @@ joined-requires-clause-replayed c =
 pub joined-requires-clause-asked : goal.joined-requires-clause-asked
 joined-requires-clause-asked c =
     let d = c.self.inside in
-    let asked : capped (asked_of d.lists) ≡ capped (judged_in (d.history.entries ++ c.args.entry ∷ [])) =
-    subst (λ (D : Drafted). capped D.asked ≡ capped (judged_in (D.history ++ c.args.entry ∷ []))) (sym c.self.view_is) c.requires.asked in
+    let asked : capped (asked_of d.lists) ≡ capped (work_in Judged (d.history.entries ++ c.args.entry ∷ [])) =
+    subst (λ (D : Drafted). capped D.asked ≡ capped (work_in Judged (D.history ++ c.args.entry ∷ []))) (sym c.self.view_is) (c.requires.done Judged) in
     rw c.in-Ok.ensures.ok
     (sym (capped-small _ c.kept.ensures.few) ∙ sym (ap (λ (o : _). capped (asked_of o)) c.in-Some.is) ∙ asked)
+
+pub joined-requires-clause-written : goal.joined-requires-clause-written
+joined-requires-clause-written c =
+    let d = c.self.inside in
+    let written : capped d.rows ≡ capped (work_in Written (d.history.entries ++ c.args.entry ∷ [])) =
+    subst (λ (D : Drafted). capped D.written ≡ capped (work_in Written (D.history ++ c.args.entry ∷ []))) (sym c.self.view_is) (c.requires.done Written) in
+    rw c.in-Ok.ensures.ok (sym (capped-small _ c.self.invariant.few) ∙ written)

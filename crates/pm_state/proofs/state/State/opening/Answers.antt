@@ -10,4 +10,5 @@ invariant_of-result c =
       limit = refl;
       listed = empty-listed opening.graph refl;
       asked = refl;
+      written = refl;
     })

@@ -1,5 +1,5 @@
 -- The turn is that of an obligation which stands in the draft's graph.
-use Rattle.std.proofs.Common.{refl, sym, subst}
+use Rattle.std.proofs.Common.{sym, subst}
 use Rattle.pm_model.specs.Formed.{IsWellFormed}
 use Rattle.pm_runner.specs.Turns.{IsTurn}
 use Rattle.pm_step.specs.Responders.{Underway}
@@ -56,13 +56,13 @@ returns-clause-refused c =
     c.at-at.ensures c.at-obligation.ensures c.at-action.result.now c.self.invariant asked in
     rw (← c.self.view_is, done) c.act_by-done.ensures.refused
 
-pub returns-clause-judged : goal.returns-clause-judged
-returns-clause-judged c =
+pub returns-clause-done : goal.returns-clause-done
+returns-clause-done c w =
     let s = c.self.inside in
     let asked = rw c.actions-actions.ensures.actions at c.at-action.ensures in
     let counted = acted-counted s.names s.version s.obligations.now.items s.places.now s.draft.graph c.args.place c.at-at.result.now c.at-obligation.result.now
-    c.at-at.ensures c.at-obligation.ensures c.at-action.result.now c.self.invariant asked in
-    rw (← c.self.view_is, counted) c.act_by-done.ensures.judged
+    c.at-at.ensures c.at-obligation.ensures w c.at-action.result.now c.self.invariant asked in
+    rw (← c.self.view_is, counted) (c.act_by-done.ensures.done w)
 
 pub returns-clause-err : goal.returns-clause-err
 returns-clause-err c =

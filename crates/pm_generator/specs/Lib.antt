@@ -1,0 +1,6 @@
+pub mod Generated
+pub mod Left
+pub mod Runs
+pub mod Summaries
+pub mod Taken
+pub mod Worked

@@ -1,0 +1,3 @@
+pub mod ByNames
+pub mod Numbered
+pub mod Replied

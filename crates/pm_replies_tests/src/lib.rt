@@ -1,0 +1,5 @@
+//! Tests of replies that are read back, by the public calls.
+#![tactic(auto)]
+
+#[cfg(test)]
+mod reading;
