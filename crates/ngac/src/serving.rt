@@ -2,13 +2,16 @@
 
 ghost use Rattle.std.specs.Prelude.{◌≡◌, ◌<◌, ◌≤◌, None};
 
+use crate::operator::Operator;
 use crossbeam_utils::rule::Protocol;
 use pm_house::{Home, House, Seat, Seats, house_room};
 use pm_io::NoKeep;
-use pm_model::{Memory, Sink};
+use pm_model::{Keep, Memory, Sink};
 use pm_publish::{Glimpse, NeverBack, Opened, Sealed};
 use pm_run::{Status, write_all};
-use pm_server::{Door, Entrance, Gateway, OpenError, PollFeed, Watch, dismiss, open_gateway};
+use pm_server::{
+    Door, Entrance, Gateway, Notices, OpenError, PollFeed, Watch, dismiss, open_gateway,
+};
 use pm_step::Edition;
 use pm_worker::{Crew, OpenGate, run_workers};
 use std::alloc::Global;
@@ -65,7 +68,7 @@ impl<'a, H: Home + Send + Sync, R: Threads + Wait + Clock + Alloc<A = Global> + 
     R,
 > {
     // All work, until the server is at its end.
-    fn work(self, rt: &R, house: &House<Edition, NoKeep, H>) {
+    fn work<K: Keep + Drop + Send>(self, rt: &R, house: &House<Edition, K, H>) {
         let Staff { mut crew } = self;
         run_workers(rt, rt.alloc(), house, &mut crew, &OpenGate);
     }
@@ -101,9 +104,10 @@ fn tell<O: Sink>(alloc: Global, out: &mut O, port: u16) -> Result<(), Memory> {
 
 // Tells where it listens once each worker has begun, and leaves connections at their doors. It comes back where the server
 // can't go on.
-fn attend<O: Sink, R: Wait + Clock + Alloc<A = Global>>(
+fn attend<O: Sink, N: Notices, R: Wait + Clock + Alloc<A = Global>>(
     rt: &R,
     out: &mut O,
+    notices: &mut N,
     watch: &Watch,
     entrance: &mut Entrance,
     doors: &mut [Door],
@@ -112,19 +116,61 @@ fn attend<O: Sink, R: Wait + Clock + Alloc<A = Global>>(
     if entrance.await_workers(rt, watch, doors.len() as u64)
         && tell(rt.alloc(), out, port).is_ok()
     {
-        entrance.accept_all(rt, watch, doors);
+        entrance.accept_all(rt, watch, doors, notices);
     }
     dismiss(watch, doors);
 }
 
-// Serves what comes, until it can't go on; or tells why it can't begin.
-fn run_house<
+// Serves what comes by this house, until it can't go on; or tells why it can't begin.
+pub(crate) fn run_house<
+    K: Keep + Drop + Send,
     H: Home + Send + Sync,
     O: Sink,
+    N: Notices,
     R: Threads + Wait + Net + Clock + Alloc<A = Global> + Sync,
 >(
     rt: &R,
     out: &mut O,
+    notices: &mut N,
+    house: &House<Edition, K, H>,
+    seats: &mut Seats<Edition, H>,
+    port: u16,
+    workers: u32,
+) -> Result<(), OpenError> {
+    let mut entrance = Entrance::open(rt, rt.alloc(), port)?;
+    let watch = entrance.watch()?;
+    let port = entrance.port()?;
+    let mut staff = Staff {
+        crew: Vec::new(rt.alloc()),
+    };
+    let mut doors = Vec::new(rt.alloc());
+    hire_all(
+        rt,
+        rt.alloc(),
+        &watch,
+        seats,
+        &mut staff,
+        &mut doors,
+        workers,
+    )?;
+    thread::join(
+        rt,
+        || staff.work(rt, house),
+        || attend(rt, out, notices, &watch, &mut entrance, &mut doors, port),
+    );
+    Ok(())
+}
+
+// Serves what comes by a house of the opening state.
+fn serve_anew<
+    H: Home + Send + Sync,
+    O: Sink,
+    N: Notices,
+    R: Threads + Wait + Net + Clock + Alloc<A = Global> + Sync,
+>(
+    rt: &R,
+    out: &mut O,
+    notices: &mut N,
     opened: Opened,
     blank: Blank,
     port: u16,
@@ -134,9 +180,6 @@ fn run_house<
     requires ledger { (blank.name ≡ H.name) × (blank.parts ≡ H.parts) }
     requires seats { (0 < workers) × (workers ≤ 32) × (H.all ≡ workers) × (H.parts ≡ workers) }
 {
-    let mut entrance = Entrance::open(rt, rt.alloc(), port)?;
-    let watch = entrance.watch()?;
-    let port = entrance.port()?;
     let (house, mut seats) = House::<Edition, NoKeep, H>::open(
         rt.alloc(),
         opened,
@@ -144,32 +187,32 @@ fn run_house<
         NoKeep,
         workers,
     )?;
-    let mut staff = Staff {
-        crew: Vec::new(rt.alloc()),
-    };
-    let mut doors = Vec::new(rt.alloc());
-    hire_all(
-        rt,
-        rt.alloc(),
-        &watch,
-        &mut seats,
-        &mut staff,
-        &mut doors,
-        workers,
-    )?;
-    thread::join(
-        rt,
-        || staff.work(rt, &house),
-        || attend(rt, out, &watch, &mut entrance, &mut doors, port),
-    );
-    Ok(())
+    run_house(rt, out, notices, &house, &mut seats, port, workers)
+}
+
+/// How a server has ended that came back with this.
+pub(crate) fn ended<E: Sink>(
+    operator: &mut Operator<'_, E>,
+    port: u16,
+    served: Result<(), OpenError>,
+) -> Status {
+    match served {
+        Ok(()) => Status::ServeFault,
+        Err(OpenError::Memory) => Status::Memory,
+        Err(OpenError::System(why)) => {
+            operator.explain(port, why);
+            Status::ListenFault
+        }
+    }
 }
 
 /// Listens on this port of 127.0.0.1, tells the port on `out` once all workers have begun, and serves each connection by one
-/// of so many workers, until the process is ended. It comes back only where it can't begin, or can't go on.
-pub(crate) fn serve<O: Sink, R: Threads + Wait + Net + Clock + Alloc<A = Global> + Sync>(
+/// of so many workers, until the process is ended. It comes back only where it can't begin, or can't go on; where the system refused
+/// something before it listened, it says on `err` why.
+pub(crate) fn serve<O: Sink, E: Sink, R: Threads + Wait + Net + Clock + Alloc<A = Global> + Sync>(
     rt: &R,
     out: &mut O,
+    err: &mut E,
     port: u16,
     workers: u16,
 ) -> Status
@@ -177,9 +220,18 @@ pub(crate) fn serve<O: Sink, R: Threads + Wait + Net + Clock + Alloc<A = Global>
 {
     let workers = u32::from(workers);
     let (opened, blank) = house_room(workers);
-    match run_house::<Brand, O, R>(rt, out, opened, blank, port, workers) {
-        Ok(()) => Status::ServeFault,
-        Err(OpenError::Memory) => Status::Memory,
-        Err(OpenError::System) => Status::ListenFault,
-    }
+    let mut operator = Operator {
+        alloc: rt.alloc(),
+        err,
+    };
+    let served = serve_anew::<Brand, O, Operator<'_, E>, R>(
+        rt,
+        out,
+        &mut operator,
+        opened,
+        blank,
+        port,
+        workers,
+    );
+    ended(&mut operator, port, served)
 }

@@ -1,5 +1,6 @@
 pub mod Counting
 pub mod Kept
 pub mod Own
+pub mod EntryByEntry
 pub mod Seating
 pub mod Sitting

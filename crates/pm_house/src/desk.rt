@@ -1,6 +1,6 @@
 //! The desk.
 
-ghost use Rattle.std.specs.Prelude.{◌≡◌, ◌≢◌, ◌<◌, ◌≤◌, ◌+◌, [], ℕ, length, take, slice_index, replicate, OnOk, OnErr, IfOk, IfSome, MatchBool};
+ghost use Rattle.std.specs.Prelude.{◌≡◌, ◌<◌, ◌≤◌, ◌+◌, length, take, option_map, OnOk, OnErr, IfOk, IfSome, MatchBool};
 ghost use mathlib.Core.List.{IsPrefix};
 ghost use Rattle.pm_machine.specs.Answered.{IsStep};
 ghost use Rattle.pm_model.specs.Answer.{longest_history};
@@ -8,10 +8,11 @@ ghost use Rattle.pm_model.specs.Causes.{HasKeepCause};
 ghost use Rattle.pm_model.specs.History.{opening_machine};
 ghost use Rattle.pm_world.specs.Seats.{count_by_seat};
 ghost use Rattle.pm_house.specs.Lanes.{entry_by};
-ghost use Rattle.pm_house.specs.Desks.{Comes, HasFaultCause, reply_told};
+ghost use Rattle.pm_house.specs.Desks.{IsDesk, Comes, HasFaultCause, reply_told};
 
 use crate::home::Home;
 use crate::lane::Lane;
+use crate::restoring::count;
 use crossbeam_utils::rule::Protocol;
 use left_right::Absorb;
 use pm_machine::{Stepped, Version};
@@ -123,26 +124,6 @@ fn keep_last<V: Version, K: Keep>(keeper: &mut K, at: u64, next: &V) -> Result<(
     keeper.keep(at, entry)
 }
 
-// One more for a seat.
-fn count(counts: &mut Vec<u64>, seat: u32)
-    requires within { seat < length counts.old.items }
-    requires room { slice_index counts.old.items seat ≤ longest_history }
-    ensures size { length counts.new.items ≡ length counts.old.items }
-    ensures seat { slice_index counts.new.items seat ≡ slice_index counts.old.items seat + 1 }
-    ensures others { (s : ℕ) → s ≢ seat → slice_index counts.new.items s ≡ slice_index counts.old.items s }
-{
-    counts[seat as usize] += 1;
-}
-
-// So many zeros.
-fn zeros(alloc: Global, count: u32) -> Result<Vec<u64>, Memory>
-    ensures { IfOk result (λ r. r.items ≡ replicate count 0) }
-{
-    let mut zeros = Vec::with_capacity(alloc, count as usize)?;
-    zeros.resize(count as usize, 0)?;
-    Ok(zeros)
-}
-
 // Before any entry there is one version, and whoever holds a version of no entry holds it.
 #[tactic(auto, using(crate::proofs::Counting::empty_is_opening))]
 fn shows_opening<V: Version, H: Home>(viewer: &Viewer<V, H>) -> bool
@@ -154,26 +135,22 @@ fn shows_opening<V: Version, H: Home>(viewer: &Viewer<V, H>) -> bool
 
 impl<V: Version, K: Keep + Drop, H: Home> Desk<V, K, H> {
     pub(crate) fn new(
-        alloc: Global,
         publisher: Publisher<V, H>,
-        book: Book<H>,
+        latest: Option<Sealed<V, H>>,
         keeper: K,
-        seats: u32,
-    ) -> Result<Desk<V, K, H>, Memory>
-        requires published { V.machine publisher ≡ opening_machine }
-        requires book { book.total ≡ 0 }
-        requires seats { H.all ≡ seats }
-        requires keeper { IfSome (K.kept keeper) (λ es. es ≡ []) }
-        ensures { IfOk result (λ d. (d.0 ≡ opening_machine) × (d.1 ≡ keeper)) }
+        book: Book<H>,
+        counts: Vec<u64>,
+    ) -> Desk<V, K, H>
+        requires { IsDesk (V.machine publisher) (option_map V.machine latest) (K.kept keeper) book.total counts.items H.all }
+        ensures { (result.0 ≡ V.machine publisher) × (result.1 ≡ keeper) }
     {
-        let counts = zeros(alloc, seats)?;
-        Ok(Desk {
+        Desk {
             publisher,
-            latest: None,
+            latest,
             keeper,
             book,
             counts,
-        })
+        }
     }
 
     /// The version that is published.

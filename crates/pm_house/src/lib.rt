@@ -6,6 +6,8 @@ mod home;
 mod house;
 mod lane;
 mod opening;
+mod restored;
+mod restoring;
 mod seat;
 mod seats;
 
@@ -14,5 +16,6 @@ pub use home::Home;
 pub use house::House;
 pub use lane::Lane;
 pub use opening::house_room;
+pub use restored::RestoreError;
 pub use seat::{Looked, Replied, Seat};
 pub use seats::Seats;

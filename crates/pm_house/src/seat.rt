@@ -1,10 +1,10 @@
 //! A seat.
 
 ghost use Rattle.std.specs.Prelude.{◌≡◌, ◌≢◌, length, true, IsOk, IfNone, IfSome, OnErr, IfOk, MatchBool};
-ghost use Rattle.pm_model.specs.History.{opening_machine};
 ghost use Rattle.pm_machine.specs.Asking.{asks_freely};
+ghost use Rattle.pm_world.specs.Seats.{count_by_seat};
 ghost use Rattle.pm_house.specs.Desks.{NeverFails};
-ghost use Rattle.pm_house.specs.Seated.{seated, IsSeat, Looks, Rests, Submits};
+ghost use Rattle.pm_house.specs.Seated.{seated, IsSeat, Looks, Rests, ShowOneHistory, Submits};
 
 use crate::desk::{Desk, Submitted};
 use crate::home::Home;
@@ -82,16 +82,13 @@ where
 }
 
 impl<V: Version, H: Home> Seat<V, H> {
+    // A seat that knows all its entries in what the viewer holds.
     pub(crate) fn new(lane: Lane<H>, viewer: Viewer<V, H>) -> Seat<V, H>
-        requires lane { lane.share ≡ 0 }
-        requires viewer { V.machine viewer.shown ≡ opening_machine }
-        ensures { result ≡ seated lane 0 (V.machine viewer.shown) }
+        requires { lane.share ≡ count_by_seat lane.seat (V.machine viewer.shown).history }
+        ensures { result ≡ seated lane (length (V.machine viewer.shown).history) (V.machine viewer.shown) }
     {
-        Seat {
-            viewer,
-            lane,
-            mark: 0,
-        }
+        let mark = viewer.shown().version();
+        Seat { viewer, lane, mark }
     }
 
     /// The seat's number.
@@ -113,6 +110,14 @@ impl<V: Version, H: Home> Seat<V, H> {
         ensures { V.machine result.now ≡ self.now.machine }
     {
         self.viewer.shown()
+    }
+
+    /// Two seats of one house show one history, at any moment: what the one shows begins what the other shows. It takes no lock and
+    /// no memory.
+    pub fn compare(&self, other: &Seat<V, H>)
+        ensures { ShowOneHistory self.now other.now }
+    {
+        self.viewer.compare(&other.viewer)
     }
 
     /// What each seat keeps: where it does nothing it is told nothing, and its share is how many of its entries the front

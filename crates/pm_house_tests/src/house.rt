@@ -3,6 +3,7 @@
 ghost use Rattle.std.specs.Prelude.{◌≡◌, ◌<◌, ◌≤◌, [], IfSome};
 
 mod asking;
+mod restoring;
 
 use asking::{
     Ask, Told, fault_at, is_seen, is_told, letter, never_falls, policy, request, start_processes,
@@ -121,6 +122,34 @@ fn read_as_denied<H: Home, R: Threads + Wait + Abort + Alloc<A = Global> + Sync>
 fn a_stranger_is_told_of_the_policy(rt: HostRuntime) {
     let (opened, blank) = house_room(2);
     policy_of_a_stranger::<Brand, _>(&rt, opened, blank)
+}
+
+// How many seats of 40 places are given.
+fn given<H: Home>(rt: &impl Abort, seats: &mut Seats<Edition, H>) -> u32 {
+    let mut given = 0u32;
+    for place in 0..40u32 {
+        if let Some(seat) = seats.seat(place) {
+            assert_eq!(rt; seat.number(), place);
+            given = given.wrapping_add(1);
+        }
+    }
+    given
+}
+
+fn many_seats<H: Home, R: Abort + Alloc<A = Global>>(rt: &R, opened: Opened, blank: Blank)
+    requires room { opened ≡ H.book }
+    requires ledger { (blank.name ≡ H.name) × (blank.parts ≡ H.parts) }
+    requires seats { (H.all ≡ 32) × (H.parts ≡ 32) }
+{
+    let (_house, mut seats) = house_of::<NoKeep, H, R>(rt, opened, blank, NoKeep, 32);
+    assert_eq!(rt; given(rt, &mut seats), 32);
+    assert_eq!(rt; given(rt, &mut seats), 0);
+}
+
+#[test]
+fn each_seat_of_32_is_given_once(rt: HostRuntime) {
+    let (opened, blank) = house_room(32);
+    many_seats::<Brand, _>(&rt, opened, blank)
 }
 
 fn keeper_fails<H: Home, R: Threads + Wait + Abort + Alloc<A = Global> + Sync>(

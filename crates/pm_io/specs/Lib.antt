@@ -1,3 +1,4 @@
 pub mod Devices
 pub mod MemLinks
+pub mod Sockets
 pub mod Wires

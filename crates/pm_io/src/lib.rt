@@ -11,6 +11,7 @@ mod mem_link;
 mod memory;
 mod mio_link;
 mod moving;
+mod nonblocking;
 mod streams;
 
 pub use calm::{CalmSink, CalmSource};
@@ -19,4 +20,5 @@ pub use links::{Link, LinkRead, LinkWrite};
 pub use mem_link::MemLink;
 pub use memory::{MemSink, MemSource};
 pub use mio_link::MioLink;
+pub use nonblocking::NonBlocking;
 pub use streams::{StdSink, StdSource};

@@ -1,24 +1,28 @@
 //! A link over a socket.
 
 ghost use Rattle.std.specs.Prelude.{◌≡◌, ◌<◌, length};
+ghost use Rattle.std.specs.IoError.{error_kind};
+ghost use Rattle.pm_io.specs.Sockets.{is_wait, wire_over, read_of, read_counted, write_of, write_counted, ReadsOnce, WritesOnce};
 ghost use Rattle.pm_io.specs.Wires.{IsLater, IsRead, IsWritten, ReadCounts, WriteCounts};
 
 use crate::counting::raise;
 use crate::links::{Link, LinkRead, LinkWrite};
+use crate::nonblocking::NonBlocking;
 use mio::net::TcpStream;
-use std::io::{ErrorKind, Read, Write};
+use std::io;
+use std::io::ErrorKind;
 use std::marker::Model;
 
 /// A stream that doesn't wait, with the counts of a link. It tells no content: that is the system's. A read or a write
 /// that would wait is an Again, and each other error is a fault.
-pub struct MioLink {
-    stream: TcpStream,
+pub struct MioLink<S = TcpStream> {
+    stream: S,
     faults: u64,
     read_agains: u64,
     write_agains: u64,
 }
 
-impl Drop for MioLink {
+impl<S: Drop> Drop for MioLink<S> {
     fn drop(self) {
         let MioLink {
             stream: _,
@@ -29,19 +33,25 @@ impl Drop for MioLink {
     }
 }
 
-impl Model for MioLink {
-    ghost use Rattle.std.specs.Prelude.{None};
-    ghost use Rattle.pm_io.specs.Wires.{Wire};
+impl<S> Model for MioLink<S> {
+    ghost use Rattle.pm_io.specs.Sockets.{Streamed};
 
-    ghost Value = { Wire };
+    ghost Value = { Streamed S };
 
-    ghost view = { λ l. record { left = None; taken = None; faults = l.faults; read_agains = l.read_agains; write_agains = l.write_agains } };
+    ghost view = { λ l. record { stream = l.stream; faults = l.faults; read_agains = l.read_agains; write_agains = l.write_agains } };
 }
 
-impl MioLink {
+// Whether the stream said that it would have to wait.
+fn would_wait(error: &io::Error) -> bool
+    ensures { result ≡ is_wait (error_kind error.now) }
+{
+    matches!(error.kind(), ErrorKind::WouldBlock)
+}
+
+impl<S: NonBlocking> MioLink<S> {
     /// A link over this stream, which has not failed yet.
-    pub fn new(stream: TcpStream) -> MioLink
-        ensures { result ≡ record { left = None; taken = None; faults = 0; read_agains = 0; write_agains = 0 } }
+    pub fn new(stream: S) -> MioLink<S>
+        ensures { result ≡ record { stream = stream; faults = 0; read_agains = 0; write_agains = 0 } }
     {
         MioLink {
             stream,
@@ -51,31 +61,17 @@ impl MioLink {
         }
     }
 
-    fn fail(&mut self) -> LinkWrite
-        ensures failed { WriteCounts self.old self.new result × (result ≡ LinkWrite.Failed) }
-        ensures later { IsLater self.old self.new }
-        ensures same { (self.new.left ≡ self.old.left) × (self.new.taken ≡ self.old.taken) }
+    // What a read comes to, counted.
+    fn read_comes_to(&mut self, answer: io::Result<usize>) -> LinkRead
+        ensures told { result ≡ read_of answer }
+        ensures counted { self.new ≡ read_counted self.old result }
+        ensures counts { ReadCounts (wire_over self.old) (wire_over self.new) result }
+        ensures later { IsLater (wire_over self.old) (wire_over self.new) }
     {
-        raise(&mut self.faults);
-        LinkWrite::Failed
-    }
-}
-
-impl Link for MioLink {
-    ghost wire = { λ l. l };
-
-    fn read(&mut self, piece: &mut [u8]) -> LinkRead
-        requires { 0 < length piece.old }
-        ensures read { IsRead self.old self.new piece.new result }
-        ensures counts { ReadCounts self.old self.new result }
-        ensures later { IsLater self.old self.new }
-        ensures taken { self.new.taken ≡ self.old.taken }
-    {
-        let answer = self.stream.read(piece);
         match answer {
             Ok(0) => LinkRead::End,
             Ok(count) => LinkRead::Got(count),
-            Err(error) if error.kind() == ErrorKind::WouldBlock => {
+            Err(error) if would_wait(&error) => {
                 raise(&mut self.read_agains);
                 LinkRead::Again
             }
@@ -86,22 +82,51 @@ impl Link for MioLink {
         }
     }
 
-    fn write(&mut self, piece: &[u8]) -> LinkWrite
-        requires { 0 < length piece.now }
-        ensures written { IsWritten self.old self.new piece.now result }
-        ensures counts { WriteCounts self.old self.new result }
-        ensures later { IsLater self.old self.new }
-        ensures left { self.new.left ≡ self.old.left }
+    // What a write comes to, counted.
+    fn write_comes_to(&mut self, answer: io::Result<usize>) -> LinkWrite
+        ensures told { result ≡ write_of answer }
+        ensures counted { self.new ≡ write_counted self.old result }
+        ensures counts { WriteCounts (wire_over self.old) (wire_over self.new) result }
+        ensures later { IsLater (wire_over self.old) (wire_over self.new) }
     {
-        let answer = self.stream.write(piece);
         match answer {
-            Ok(0) => self.fail(),
-            Ok(count) => LinkWrite::Took(count),
-            Err(error) if error.kind() == ErrorKind::WouldBlock => {
+            Ok(count) if count > 0 => LinkWrite::Took(count),
+            Err(error) if would_wait(&error) => {
                 raise(&mut self.write_agains);
                 LinkWrite::Again
             }
-            Err(_) => self.fail(),
+            Ok(_) | Err(_) => {
+                raise(&mut self.faults);
+                LinkWrite::Failed
+            }
         }
+    }
+}
+
+impl<S: NonBlocking> Link for MioLink<S> {
+    ghost wire = { wire_over };
+
+    fn read(&mut self, piece: &mut [u8]) -> LinkRead
+        requires { 0 < length piece.old }
+        ensures once { ReadsOnce S.reads self.old self.new (length piece.old) piece.new result }
+        ensures read { IsRead (wire_over self.old) (wire_over self.new) piece.new result }
+        ensures counts { ReadCounts (wire_over self.old) (wire_over self.new) result }
+        ensures later { IsLater (wire_over self.old) (wire_over self.new) }
+        ensures taken { (wire_over self.new).taken ≡ (wire_over self.old).taken }
+    {
+        let answer = self.stream.read_now(piece);
+        self.read_comes_to(answer)
+    }
+
+    fn write(&mut self, piece: &[u8]) -> LinkWrite
+        requires { 0 < length piece.now }
+        ensures once { WritesOnce S.writes self.old self.new piece.now result }
+        ensures written { IsWritten (wire_over self.old) (wire_over self.new) piece.now result }
+        ensures counts { WriteCounts (wire_over self.old) (wire_over self.new) result }
+        ensures later { IsLater (wire_over self.old) (wire_over self.new) }
+        ensures left { (wire_over self.new).left ≡ (wire_over self.old).left }
+    {
+        let answer = self.stream.write_now(piece);
+        self.write_comes_to(answer)
     }
 }

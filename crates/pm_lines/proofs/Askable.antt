@@ -1,5 +1,5 @@
 -- What a line asks for is a request that a line can ask for.
-use Rattle.std.proofs.Common.{◌≡◌, ◌≤◌, ◌<◌, ◌^◌, ◌+◌, ℕ, List, [], ◌∷◌, ◌++◌, ◌&&◌, ◌==◌, Bool, true, false, not, drop, nat_lt, nat_le, length, filter, map, bytes_eq, codes, Option, None, Some, Result, Ok, Err, IfSome, IfOk, option_and_then, option_map, if◌then◌else◌, refl, sym, ap, subst, ◌∙◌, arith, ltb-true, leb-true, inl, inr}
+use Rattle.std.proofs.Common.{◌≡◌, ◌≤◌, ◌<◌, ◌^◌, ◌+◌, ℕ, List, [], ◌∷◌, ◌++◌, ◌&&◌, ◌==◌, Bool, true, false, not, drop, nat_lt, nat_le, length, filter, map, bytes_eq, codes, Option, None, Some, Result, Ok, Err, IfSome, option_and_then, option_map, if◌then◌else◌, refl, sym, ap, subst, ◌∙◌, arith, ltb-true, leb-true, inl, inr}
 use Rattle.std.proofs.lemmas.Bool.{and_parts, cases_Bool}
 use Rattle.std.proofs.lemmas.List.Filters.{length-filter_both}
 use Rattle.std.proofs.lemmas.Slice.Eq.{bytes_eq-Decides}
@@ -58,40 +58,7 @@ use Rattle.pm_print.specs.Requested.{request_text}
 use Rattle.pm_print.proofs.Asking.{printed_is_asked}
 use Rattle.pm_read.proofs.Distinct.{others}
 use Rattle.pm_read.proofs.Limits.{sets_fit}
-
--- ---- what a form finds, if it does, has the property
-
-record Finds {A : Type 0} (P : A → Type 0) (o : Option A) : Type 0 where
-  each : IfSome o P
-
-found : {A : Type 0} (P : A → Type 0) (a : A) → P a → Finds P (Some a)
-found P a has = record { each = has }
-
-nothing : {A : Type 0} (P : A → Type 0) → Finds P None
-nothing P = record { each = tt }
-
-next : {A B : Type 0} (Q : A → Type 0) (P : B → Type 0) (f : A → Option B) (o : Option A) → Finds Q o → ((a : A) → Q a → Finds P (f a)) → Finds P (option_and_then f o)
-next Q P f None has later = record { each = tt }
-next Q P f (Some a) has later = later a has.each
-
-mapped : {A B : Type 0} (Q : A → Type 0) (P : B → Type 0) (f : A → B) (o : Option A) → Finds Q o → ((a : A) → Q a → P (f a)) → Finds P (option_map f o)
-mapped Q P f None has later = record { each = tt }
-mapped Q P f (Some a) has later = record { each = later a has.each }
-
-abbrev Any : {A : Type 0} → A → Type 0
-Any a = Unit {0}
-
-any : {A : Type 0} (o : Option A) → Finds Any o
-any None = record { each = tt }
-any (Some a) = record { each = tt }
-
-if_finds : {A : Type 0} (P : A → Type 0) (b : Bool) (o rest : Option A) → (b ≡ true → Finds P o) → Finds P rest → Finds P (if b then o else rest)
-if_finds P true o rest first later = first refl
-if_finds P false o rest first later = later
-
--- at a key, or of a value
-of_form : {A : Type 0} (P : A → Type 0) (form : Data → Option A) → ((d : Data) → Finds P (form d)) → (o : Option Data) → Finds P (option_and_then form o)
-of_form P form reads o = next Any P form o (any o) (λ d u. reads d)
+use Rattle.pm_lines.proofs.Finds.{Finds, found, nothing, next, mapped, Any, any, if_finds, of_form, Gives, here, after, required}
 
 -- ---- lists without repeats
 
@@ -410,21 +377,7 @@ allowed None actions is h = found AreActions (map as_set actions) (record { each
 do_read : (d : Data) → Finds AreActions (do_form d)
 do_read d = next (Each WasAction) AreActions _ _ (array_read WasAction action_form action_read d) (λ actions h. allowed (response_refusal actions) actions refl h)
 
--- ---- what a row gives, if it does, has the property
-
-record Gives {A : Type 0} (P : A → Type 0) (r : Result A BadLine) : Type 0 where
-  each : IfOk r P
-
-here : {A : Type 0} (P : A → Type 0) (a : A) → P a → Gives P (Ok a)
-here P a has = record { each = has }
-
-after : {A B : Type 0} (Q : A → Type 0) (P : B → Type 0) (f : A → Result B BadLine) (r : Result A BadLine) → Gives Q r → ((a : A) → Q a → Gives P (f a)) → Gives P (and_then r f)
-after Q P f (Ok a) gives later = later a gives.each
-after Q P f (Err e) gives later = record { each = tt }
-
-required : {A : Type 0} (P : A → Type 0) (k : Key) (o : Option A) → Finds P o → Gives P (rows.required k o)
-required P k None finds = record { each = tt }
-required P k (Some a) finds = record { each = finds.each }
+-- ---- what a row gives
 
 abbrev IsReview : (List ℕ → ReviewOf (List ℕ)) → Type 0
 IsReview kind = (name : List ℕ) → IsNamed name → IsKept (kind name)
@@ -692,7 +645,7 @@ module _ (d : Data) (h : AreWhole d) where
   worded_read None = record { each = tt }
   worded_read (Some w) = rowed_read (rows.row_of (looking d) w) (row_has (looking d) w)
 
-same_request : (q r : Request) → what.Request q ≡ what.Request r → q ≡ r
+pub same_request : (q r : Request) → what.Request q ≡ what.Request r → q ≡ r
 same_request q r is = cc
 
 of_what : (x : Result Request BadLine) (r : Request) → what_of x ≡ what.Request r → Gives IsAskable x → IsAskable r

@@ -1,2 +1,2 @@
-pub mod Saying
+pub mod Texts
 pub mod Summing

@@ -4,6 +4,7 @@ ghost use Rattle.pm_model.specs.Causes.{Rose};
 ghost use Rattle.pm_generator.specs.Generated.{generated};
 ghost use Rattle.pm_generator.specs.Summaries.{summary, summary_text};
 ghost use Rattle.pm_program.specs.Generating.{Summed};
+ghost use Rattle.pm_run.specs.Statuses.{status_number};
 
 use pm_generator::generate;
 use pm_model::{Failed, Memory, Sink};
@@ -38,7 +39,8 @@ pub(crate) fn run_generated<M: Tally + Drop, O: Sink, R: Threads + Sync>(
     ensures summed { Summed size (O.taken out.old) (O.taken out.new) result }
     ensures usage { result ≢ Status.Usage }
     ensures serve { (port workers : ℕ) → result ≢ Status.Serve port workers }
-    ensures listening { result ≢ Status.ListenFault }
+    ensures serve_journal { (port workers : ℕ) → result ≢ Status.ServeJournal port workers }
+    ensures number { status_number result ≤ 6 }
     ensures read { result ≢ Status.ReadFault }
     ensures write { result ≡ Status.WriteFault → Rose (O.faults out.old) (O.faults out.new) }
     ensures write_kept { result ≢ Status.WriteFault → O.faults out.new ≡ O.faults out.old }

@@ -3,5 +3,7 @@
 
 mod generating;
 mod program;
+mod saying;
 
-pub use program::{say, top};
+pub use program::top;
+pub use saying::say;

@@ -1,16 +1,17 @@
 //! The program, over what it reads and writes.
-ghost use Rattle.std.specs.Prelude.{◌≡◌, ◌≢◌, ◌↔◌, ◌^◌, ℕ, IfErr};
+ghost use Rattle.std.specs.Prelude.{◌≡◌, ◌≢◌, ◌↔◌, ◌≤◌, ◌^◌, ℕ, IfErr};
 ghost use Rattle.std.specs.IoError.{error_kind};
 ghost use Rattle.pm_model.specs.Causes.{Rose, raised};
 ghost use Rattle.pm_run.specs.Ran.{Ran, IsComplete};
 ghost use Rattle.pm_program.specs.Generating.{Summed};
 ghost use Rattle.pm_program.specs.Said.{Said};
-ghost use Rattle.pm_run.specs.Statuses.{status_text};
-ghost use Rattle.pm_words.specs.Words.{AskRun, AskGenerate, AskServe, AskOther, usage_line};
+ghost use Rattle.pm_run.specs.Statuses.{status_line, status_number, status_text};
+ghost use Rattle.pm_words.specs.Words.{AskRun, AskGenerate, AskServe, AskServeJournal, AskOther, usage_line};
 
 use crate::generating::run_generated;
+use crate::saying::say;
 use pm_model::{Memory, Sink, Source};
-use pm_run::{Status, run_lines, write_all};
+use pm_run::{Status, run_lines};
 use pm_tally::Tally;
 use pm_words::{Asked, read_words};
 use std::alloc::Global;
@@ -21,17 +22,11 @@ use std::thread::Threads;
 
 const LIMIT: u64 = 1 << 40;
 
-/// Says on `err` how the program ended, as far as it takes the words.
-pub fn say<E: Sink>(err: &mut E, status: Status)
-    ensures { Said (E.taken err.old) (E.taken err.new) (E.faults err.old) (E.faults err.new) (status_text status) }
-{
-    let _ = write_all(err, status.text().as_bytes());
-}
-
 /// The program: with the one word `run` behind its name it answers the lines of the source, up to 2^40 bytes of it. With
 /// `generate` and a size it runs the generated policy of that size, and writes the summary of the run, and nothing else. With
-/// `serve`, a port and a number of workers it tells that a server is asked for, and does nothing. To read its words takes
-/// memory; where there is none for that, it does nothing either.
+/// `serve`, a port and a number of workers it tells that a server is asked for, and with `serve-journal`, these and a file that
+/// the server is to have a journal, and does nothing. To read its words takes memory; where there is none for that, it does
+/// nothing either. The statuses of numbers from 7 on are those of a server that couldn't serve, and it tells none of them.
 pub fn top<M: Tally + Drop, I: Source, O: Sink, E: Sink, R: Threads + Sync>(
     rt: &R,
     alloc: Global,
@@ -44,8 +39,9 @@ pub fn top<M: Tally + Drop, I: Source, O: Sink, E: Sink, R: Threads + Sync>(
     ensures usage_line { result ≡ Status.Usage → status_text result ≡ usage_line }
     ensures serve { (port workers : ℕ) → result ≢ Status.Memory
         → ((result ≡ Status.Serve port workers) ↔ AskServe args port workers) }
-    ensures listening { result ≢ Status.ListenFault }
-    ensures serving { result ≢ Status.ServeFault }
+    ensures serve_journal { (port workers : ℕ) → result ≢ Status.Memory
+        → ((result ≡ Status.ServeJournal port workers) ↔ AskServeJournal args port workers) }
+    ensures number { status_number result ≤ 6 }
     ensures memory { IfErr args (λ error. (result ≡ Status.Memory) ↔ (error_kind error ≡ ErrorKind.OutOfMemory)) }
     ensures unread { ¬ AskRun args → source.new ≡ source.old }
     ensures unwritten { ¬ AskRun args → ((size : ℕ) → ¬ AskGenerate args size) → out.new ≡ out.old }
@@ -59,12 +55,13 @@ pub fn top<M: Tally + Drop, I: Source, O: Sink, E: Sink, R: Threads + Sync>(
     ensures write_kept { result ≢ Status.WriteFault → O.faults out.new ≡ O.faults out.old }
     ensures end { AskRun args → result ≡ Status.Done → I.ends source.new ≡ raised (I.ends source.old) }
     ensures end_kept { result ≢ Status.Done → I.ends source.new ≡ I.ends source.old }
-    ensures said { Said (E.taken err.old) (E.taken err.new) (E.faults err.old) (E.faults err.new) (status_text result) }
+    ensures said { Said (E.taken err.old) (E.taken err.new) (E.faults err.old) (E.faults err.new) (status_line result) }
 {
     let status = match read_words(alloc, args) {
         Ok(Some(Asked::Run)) => run_lines::<M, I, O, R>(rt, alloc, LIMIT, source, out),
         Ok(Some(Asked::Generate { size })) => run_generated::<M, O, R>(rt, alloc, size, out),
         Ok(Some(Asked::Serve { port, workers })) => Status::Serve { port, workers },
+        Ok(Some(Asked::ServeJournal { port, workers })) => Status::ServeJournal { port, workers },
         Ok(None) => Status::Usage,
         Err(Memory) => Status::Memory,
     };

@@ -2,7 +2,7 @@
 
 use pm_io::{CalmSource, MemSink, MemSource};
 use pm_model::{Failed, Memory, Sink, Source};
-use pm_program::top;
+use pm_program::{say, top};
 use pm_run::{Status, run_lines};
 use pm_step::Solo;
 use std::alloc::{AllocError, Global};
@@ -248,7 +248,8 @@ fn a_run_stops_at_its_limit(rt: HostRuntime) -> Result<(), Fail> {
     check_limit(&rt, 103, Status::Done, &replies)
 }
 
-const USAGE: &str = "usage: ngac run | ngac generate N | ngac serve PORT WORKERS\n";
+const USAGE: &str =
+    "usage: ngac run | ngac generate N | ngac serve PORT WORKERS | ngac serve-journal PORT WORKERS FILE\n";
 
 fn calm(alloc: Global, room: usize) -> Result<Streams<CalmSource>, Memory> {
     Ok(Streams {
@@ -285,13 +286,18 @@ static OUTSIDE_THE_GRAMMAR: &[&[&str]] = &[
     &["serve", "65536", "2"],
     &["serve", "+1", "2"],
     &["serve", "1", "2", "3"],
+    &["serve-journal", "1", "2"],
+    &["serve-journal", "1", "2", ""],
+    &["serve-journal", "1", "2", "-kept"],
+    &["serve-journal", "1", "2", "kept", "more"],
+    &["serve-journal", "kept", "1", "2"],
     &["--help"],
 ];
 
 #[test]
 fn other_words_are_usage(rt: HostRuntime) -> Result<(), Fail> {
     for texts in OUTSIDE_THE_GRAMMAR {
-        let mut streams = calm(rt.alloc(), 64)?;
+        let mut streams = calm(rt.alloc(), 128)?;
         let args = args(rt.alloc(), texts)?;
         assert!(rt; called(&rt, &mut streams, Ok(args)) == Status::Usage);
         assert!(rt; streams.err.taken() == USAGE.as_bytes());
@@ -307,7 +313,7 @@ fn check_serve(
     port: u16,
     workers: u16,
 ) -> Result<(), Fail> {
-    let mut streams = calm(rt.alloc(), 64)?;
+    let mut streams = calm(rt.alloc(), 128)?;
     let args = args(rt.alloc(), texts)?;
     let status = called(rt, &mut streams, Ok(args));
     assert_eq!(rt; status, Status::Serve { port, workers });
@@ -321,6 +327,21 @@ fn a_server_is_asked_for(rt: HostRuntime) -> Result<(), Fail> {
     check_serve(&rt, &["serve", "8080", "2"], 8080, 2)?;
     check_serve(&rt, &["serve", "0", "1"], 0, 1)?;
     check_serve(&rt, &["serve", "65535", "32"], 65535, 32)
+}
+
+#[test]
+fn a_server_with_a_journal_is_asked_for(rt: HostRuntime) -> Result<(), Fail> {
+    let mut streams = calm(rt.alloc(), 128)?;
+    let args = args(rt.alloc(), &["serve-journal", "8080", "2", "kept"])?;
+    let status = called(&rt, &mut streams, Ok(args));
+    let asked = Status::ServeJournal {
+        port: 8080,
+        workers: 2,
+    };
+    assert_eq!(rt; status, asked);
+    assert!(rt; streams.err.taken().is_empty());
+    check_unread(&rt, &mut streams);
+    Ok(())
 }
 
 // The summaries of two generated policies, added up by hand.
@@ -338,7 +359,7 @@ static SUMMARIES: &[(&str, &str)] = &[
 #[test]
 fn a_generated_policy_is_summed_up(rt: HostRuntime) -> Result<(), Fail> {
     for (size, text) in SUMMARIES {
-        let mut streams = calm(rt.alloc(), 64)?;
+        let mut streams = calm(rt.alloc(), 128)?;
         let args = args(rt.alloc(), &["generate", size])?;
         assert!(rt; called(&rt, &mut streams, Ok(args)) == Status::Done);
         assert!(rt; streams.out.taken() == text.as_bytes());
@@ -364,7 +385,7 @@ fn check_no_words(
     kind: ErrorKind,
     status: Status,
 ) -> Result<(), Fail> {
-    let mut streams = calm(rt.alloc(), 64)?;
+    let mut streams = calm(rt.alloc(), 128)?;
     let found = called(rt, &mut streams, Err(Error::from(kind)));
     assert_eq!(rt; found, status);
     assert!(rt; streams.out.taken().is_empty());
@@ -415,6 +436,8 @@ static STATUSES: &[(Status, u8, &str)] = &[
     (Status::Memory, 5, "ngac: out of memory\n"),
     (Status::TooMuch, 6, "ngac: too much input\n"),
     (Status::ListenFault, 7, "ngac: listen failed\n"),
+    (Status::JournalFault, 8, "ngac: journal failed\n"),
+    (Status::NotJournal, 9, "ngac: not a journal\n"),
     (Status::ServeFault, 11, "ngac: serving failed\n"),
 ];
 
@@ -423,4 +446,43 @@ fn statuses_have_their_numbers_and_texts(rt: HostRuntime) {
     for (status, number, text) in STATUSES {
         assert_eq!(rt; (status.number(), status.text()), (*number, *text));
     }
+}
+
+static PLACES: &[(Status, &str)] = &[
+    (Status::Damaged { at: 0 }, "ngac: journal damaged at 0\n"),
+    (
+        Status::Damaged { at: u64::MAX },
+        "ngac: journal damaged at 18446744073709551615\n",
+    ),
+    (
+        Status::Illegal { at: 262143 },
+        "ngac: journal illegal at 262143\n",
+    ),
+];
+
+#[test]
+fn places_in_a_journal_are_said(rt: HostRuntime) -> Result<(), Fail> {
+    for (status, line) in PLACES {
+        let mut err = MemSink::new(rt.alloc(), 64, &[])?;
+        say(&mut err, *status);
+        assert_eq!(rt; status.number(), 9);
+        assert!(rt; err.taken() == line.as_bytes());
+    }
+    Ok(())
+}
+
+// There is so much room, and the write of this number fails.
+#[test]
+fn a_place_that_does_not_fit_is_cut_off(rt: HostRuntime) -> Result<(), Fail> {
+    let cuts: [(usize, u64, &[u8]); 3] = [
+        (27, 9, b"ngac: journal damaged at 17"),
+        (25, 9, b"ngac: journal damaged at "),
+        (64, 1, b""),
+    ];
+    for (room, failing, said) in cuts {
+        let mut err = MemSink::new(rt.alloc(), room, &[failing])?;
+        say(&mut err, Status::Damaged { at: 170 });
+        assert_eq!(rt; err.taken(), said);
+    }
+    Ok(())
 }

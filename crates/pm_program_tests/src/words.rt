@@ -1,7 +1,7 @@
 //! Words, and what they ask for.
 
 use pm_model::Memory;
-use pm_words::{Asked, read_words};
+use pm_words::{Asked, file_in, read_words};
 use std::alloc::{AllocError, Global};
 use std::env::Args;
 use std::io::{Error, ErrorKind};
@@ -72,6 +72,29 @@ serve,80,1,--
 Serve,80,1
 server,80,1
 serve=80,1
+serve-journal
+serve-journal,80
+serve-journal,80,1
+serve-journal,80,1,
+serve-journal,80,1,-
+serve-journal,80,1,--
+serve-journal,80,1,-kept
+serve-journal,80,1,--kept
+serve-journal,80,1,--,kept
+serve-journal,80,1,kept,
+serve-journal,80,1,kept,more
+serve-journal,kept,80,1
+serve-journal,80,kept,1
+serve-journal,kept
+serve-journal,080,1,kept
+serve-journal,65536,1,kept
+serve-journal,80,0,kept
+serve-journal,80,33,kept
+serve_journal,80,1,kept
+serve-journals,80,1,kept
+serve-,80,1,kept
+serve,80,1,kept
+serve,journal,80,1,kept
 80,1
 PORT,WORKERS
 help
@@ -93,6 +116,7 @@ run,--help
 --version
 --run
 --serve,80,1
+--serve-journal,80,1,kept
 --port=80";
 
 // The words of the command line, the program's name first.
@@ -134,6 +158,48 @@ fn words_in_the_grammar(rt: HostRuntime) -> Result<(), Fail> {
     for (line, port, workers) in table {
         let server = Asked::Serve { port, workers };
         assert_eq!(rt; asked_by(alloc, line)?, Some(server), "{line}");
+    }
+    Ok(())
+}
+
+// The file that the words of the line name.
+fn file_by(alloc: Global, line: &str) -> Result<Option<String>, Memory> {
+    let args = args(alloc, line)?;
+    file_in(alloc, Ok(args))
+}
+
+static JOURNALS: &[(&str, u16, u16, &str)] = &[
+    ("serve-journal,0,1,kept", 0, 1, "kept"),
+    ("serve-journal,65535,32,/a b/c.d", 65535, 32, "/a b/c.d"),
+    ("serve-journal,8080,2,run", 8080, 2, "run"),
+    ("serve-journal,8080,2,7", 8080, 2, "7"),
+    ("serve-journal,8080,2, -", 8080, 2, " -"),
+    ("serve-journal,8080,2,\u{e9}", 8080, 2, "\u{e9}"),
+];
+
+#[test]
+fn words_with_a_file(rt: HostRuntime) -> Result<(), Fail> {
+    let alloc = rt.alloc();
+    for (line, port, workers, file) in JOURNALS {
+        let server = Asked::ServeJournal {
+            port: *port,
+            workers: *workers,
+        };
+        assert_eq!(rt; asked_by(alloc, line)?, Some(server), "{line}");
+        let found = file_by(alloc, line)?;
+        assert!(rt; found.as_deref() == Some(*file), "{line}");
+    }
+    Ok(())
+}
+
+#[test]
+fn words_without_a_file(rt: HostRuntime) -> Result<(), Fail> {
+    let alloc = rt.alloc();
+    for line in ["run", "generate,3", "serve,80,1"] {
+        assert!(rt; file_by(alloc, line)?.is_none(), "{line}");
+    }
+    for line in OUTSIDE.lines() {
+        assert!(rt; file_by(alloc, line)?.is_none(), "{line}");
     }
     Ok(())
 }

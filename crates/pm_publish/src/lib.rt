@@ -15,7 +15,7 @@ pub use copies::Copies;
 pub use front::{Front, Log, Opened};
 pub use naming::Naming;
 pub use publisher::Publisher;
-pub use room::{Room, publish_room};
+pub use room::{Resumed, Room, publish_room, resumed_room};
 pub use rule::{Glimpse, NeverBack};
 pub use sealed::Sealed;
 pub use viewer::Viewer;

@@ -21,7 +21,7 @@ use Rattle.pm_run.specs.Wrote.{Wrote, WroteWhole, WrotePart}
 use Rattle.pm_run.specs.declared.lines.Stop.{Stop}
 use Rattle.pm_run.specs.declared.lines.Stop.TheVariants as stop
 use Rattle.pm_run.specs.declared.statuses.Status.{Status}
-use Rattle.pm_run.specs.declared.statuses.Status.TheVariants.{Done, Usage, ReadFault, WriteFault, Memory, TooMuch, Serve}
+use Rattle.pm_run.specs.declared.statuses.Status.TheVariants.{Done, Usage, ReadFault, WriteFault, Memory, TooMuch, Serve, ServeJournal}
 use Rattle.pm_io.proofs.Known.{Appends-nil, Consumes-nil, Consumes-append, Consumes-kept}
 use Rattle.pm_run.proofs.Running.{Reading, reading-piece, reading-whole, reading-part}
 
@@ -201,6 +201,19 @@ ran-serve limit port workers left taken some = record {
   at_limit = λ _. (λ e. cc, λ p. let l = p.0 in let none : ⊥ = omega arith in absurd none);
 }
 
+-- with a journal or without
+pub ran-serve_journal : (limit port workers : ℕ) (left taken : Option (List ℕ)) → 0 < limit → Ran limit left left taken taken (ServeJournal port workers)
+ran-serve_journal limit port workers left taken some = record {
+  bytes = [];
+  written = [];
+  consumed = Consumes-nil left;
+  appended = Appends-nil taken;
+  due = (refl, refl);
+  at_end = λ e. cc;
+  within = omega arith;
+  at_limit = λ _. (λ e. cc, λ p. let l = p.0 in let none : ⊥ = omega arith in absurd none);
+}
+
 -- ---- all that a run tells
 
 complete-memory : (limit : ℕ) (left : Option (List ℕ)) → IsComplete limit left Memory
@@ -215,8 +228,8 @@ ends-read_fault behind rest taken f g e k w S s most some keeps rose unended = �
   ran = ran-read_fault limit left behind rest first taken S s.waiting s.output total run (omega arith) keeps;
   usage = λ e. cc;
   serve = λ p q e. cc;
-  listening = λ e. cc;
-  serving = λ e. cc;
+  journal = λ p q e. cc;
+  number = omega arith;
   complete = λ calm _. absurd (calm rose);
   read = λ _. rose;
   read_kept = λ other. absurd (other refl);
@@ -234,8 +247,8 @@ ends-done behind rest taken f g e k w S s most some nothing at_end kept ended = 
   ran = ran-done limit left behind rest first taken S s.waiting s.output total run (omega arith) nothing at_end;
   usage = λ e. cc;
   serve = λ p q e. cc;
-  listening = λ e. cc;
-  serving = λ e. cc;
+  journal = λ p q e. cc;
+  number = omega arith;
   complete = λ _ _. complete-done limit left behind rest first taken S s.waiting s.output total run (omega arith) nothing at_end;
   read = λ e. cc;
   read_kept = λ _. kept;
@@ -258,8 +271,8 @@ ends-stop behind rest taken now f g e k w v S T s most piece stop.WriteFault cam
       ran = ran-write_fault limit left rest first taken now S s.waiting piece (reading-piece limit left behind rest first taken S s.waiting s.output total piece run came (omega arith)) (part refl);
       usage = λ e. cc;
       serve = λ p q e. cc;
-      listening = λ e. cc;
-      serving = λ e. cc;
+      journal = λ p q e. cc;
+      number = omega arith;
       complete = λ _ calm. absurd (calm rose);
       read = λ e. cc;
       read_kept = λ _. kept;
@@ -272,8 +285,8 @@ ends-stop behind rest taken now f g e k w v S T s most piece stop.Memory came sh
   ran = ran-memory limit left rest first taken now S T s.waiting piece (reading-piece limit left behind rest first taken S s.waiting s.output total piece run came (omega arith)) (whole refl);
   usage = λ e. cc;
   serve = λ p q e. cc;
-  listening = λ e. cc;
-  serving = λ e. cc;
+  journal = λ p q e. cc;
+  number = omega arith;
   complete = λ _ _. complete-memory limit left;
   read = λ e. cc;
   read_kept = λ _. kept;
@@ -291,8 +304,8 @@ ended-much limit left rest taken grown f g e k w v S waiting output total run mu
   ran = ran-much limit left rest taken grown S waiting output total run much;
   usage = λ e. cc;
   serve = λ p q e. cc;
-  listening = λ e. cc;
-  serving = λ e. cc;
+  journal = λ p q e. cc;
+  number = omega arith;
   complete = λ _ _. complete-much limit left rest taken grown S waiting output total run much;
   read = λ e. cc;
   read_kept = λ _. kept;

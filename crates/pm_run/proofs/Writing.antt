@@ -63,6 +63,24 @@ Wrote-then_part a b c S T f g first second = record {
       (ap (replies S) (first.told more) ∙ replies-append S first.lines (g more) ∙ ap (λ t. replies S first.lines ++ replies t (g more)) (sym first.state));
 }
 
+-- a front of a text is one of it and another
+pub WrotePart-before : (a b : Option (List ℕ)) (first second : List ℕ) → WrotePart a b (λ _. first) → WrotePart a b (λ _. first ++ second)
+WrotePart-before a b first second part = record {
+  written = part.written;
+  appended = part.appended;
+  told = λ more. IsProperFront-before part.written first second (first ++ second) (part.told more) refl;
+}
+
+-- a text, and then a front of another
+pub WrotePart-behind : {T E : Type 0} (a b c : Option (List ℕ)) (first second : List ℕ) (r : Result T E) → Appends a b first → OnErr r (WrotePart b c (λ _. second))
+    → OnErr r (WrotePart a c (λ _. first ++ second))
+WrotePart-behind a b c first second (Ok x) here behind = tt
+WrotePart-behind a b c first second (Err e) here behind = record {
+  written = first ++ behind.written;
+  appended = Appends-append a b c first behind.written here behind.appended;
+  told = λ more. IsProperFront-behind first behind.written second (first ++ second) (behind.told more) refl;
+}
+
 -- ---- a loop that writes
 
 -- this many bytes are sent

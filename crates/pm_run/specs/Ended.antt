@@ -6,10 +6,11 @@ use Rattle.pm_model.specs.Lines.{cut}
 use Rattle.pm_model.specs.State.{State, opening}
 use Rattle.pm_session.specs.Streams.{Streams}
 use Rattle.pm_run.specs.Coming.{coming, coming_past}
+use Rattle.pm_run.specs.Statuses.{status_number}
 use Rattle.pm_run.specs.Ran.{Ran, IsComplete}
 use Rattle.pm_run.specs.Wrote.{Wrote}
 use Rattle.pm_run.specs.declared.statuses.Status.{Status}
-use Rattle.pm_run.specs.declared.statuses.Status.TheVariants.{Done, Usage, ReadFault, WriteFault, Serve, ListenFault, ServeFault}
+use Rattle.pm_run.specs.declared.statuses.Status.TheVariants.{Done, Usage, ReadFault, WriteFault, Serve, ServeJournal}
 
 -- what was done so far
 pub record Running (left rest taken grown : Option (List ℕ)) (S : State) (waiting output : List ℕ) (total : ℕ) : Type 0 where
@@ -34,8 +35,8 @@ pub record Ended (limit : ℕ) (old new : Sides) (status : Status) : Type 0 wher
   pub ran : Ran limit old.left new.left old.taken new.taken status
   pub usage : status ≢ Usage
   pub serve : (port workers : ℕ) → status ≢ Serve port workers
-  pub listening : status ≢ ListenFault
-  pub serving : status ≢ ServeFault
+  pub journal : (port workers : ℕ) → status ≢ ServeJournal port workers
+  pub number : status_number status ≤ 6
   pub complete : ¬ Rose old.read_faults new.read_faults → ¬ Rose old.write_faults new.write_faults → IsComplete limit old.left status
   pub read : status ≡ ReadFault → Rose old.read_faults new.read_faults
   pub read_kept : status ≢ ReadFault → new.read_faults ≡ old.read_faults

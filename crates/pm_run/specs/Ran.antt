@@ -7,7 +7,7 @@ use Rattle.pm_model.specs.Solo.{solo, replies}
 use Rattle.pm_run.specs.Fronts.{IsProperFront}
 use Rattle.pm_run.specs.Statuses.{ending}
 use Rattle.pm_run.specs.declared.statuses.Status.{Status}
-use Rattle.pm_run.specs.declared.statuses.Status.TheVariants.{Done, Usage, ReadFault, WriteFault, Memory, TooMuch, Serve, ListenFault, ServeFault}
+use Rattle.pm_run.specs.declared.statuses.Status.TheVariants.{Done, Usage, ReadFault, WriteFault, Memory, TooMuch, Serve, ServeJournal}
 
 -- the whole replies to the first lines of the bytes, for some number of them
 pub record AreWholeReplies (written bytes : List ℕ) : Type 0 where
@@ -15,7 +15,7 @@ pub record AreWholeReplies (written bytes : List ℕ) : Type 0 where
   pub within : count ≤ length (events bytes)
   pub split : written ≡ replies opening (take count (events bytes))
 
--- what was written, by the status, where these bytes were taken
+-- what was written, by the status, where these bytes were taken; there is no other
 abbrev pub IsDue : Status → List ℕ → List ℕ → Type 0
 IsDue Done bytes written = written ≡ solo bytes
 IsDue Usage bytes written = (bytes ≡ []) × (written ≡ [])
@@ -24,8 +24,8 @@ IsDue WriteFault bytes written = IsProperFront written (solo bytes)
 IsDue Memory bytes written = AreWholeReplies written bytes
 IsDue TooMuch bytes written = written ≡ solo bytes
 IsDue (Serve port workers) bytes written = (bytes ≡ []) × (written ≡ [])
-IsDue ListenFault bytes written = (bytes ≡ []) × (written ≡ [])
-IsDue ServeFault bytes written = (bytes ≡ []) × (written ≡ [])
+IsDue (ServeJournal port workers) bytes written = (bytes ≡ []) × (written ≡ [])
+IsDue _ bytes written = ⊥
 
 pub record Ran (limit : ℕ) (left rest taken grown : Option (List ℕ)) (status : Status) : Type 0 where
   -- what was taken from the source, and what `out` took

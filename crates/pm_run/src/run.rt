@@ -8,6 +8,7 @@ ghost use Rattle.pm_run.specs.Coming.{coming, coming_past, ahead};
 ghost use Rattle.pm_run.specs.Ended.{Ended, EndsRun, Advanced};
 ghost use Rattle.pm_run.specs.Parts.{HasStopCause};
 ghost use Rattle.pm_run.specs.Ran.{Ran, IsComplete};
+ghost use Rattle.pm_run.specs.Statuses.{status_number};
 
 use crate::lines::{Stop, answer_lines};
 use crate::statuses::Status;
@@ -141,8 +142,8 @@ pub fn run_lines<M: Answerer + Drop, I: Source, O: Sink, R: Threads + Sync>(
     ensures ran { Ran limit (I.left source.old) (I.left source.new) (O.taken out.old) (O.taken out.new) result }
     ensures usage { result ≢ Status.Usage }
     ensures serve { (port workers : ℕ) → result ≢ Status.Serve port workers }
-    ensures listening { result ≢ Status.ListenFault }
-    ensures serving { result ≢ Status.ServeFault }
+    ensures serve_journal { (port workers : ℕ) → result ≢ Status.ServeJournal port workers }
+    ensures number { status_number result ≤ 6 }
     ensures complete { ¬ Rose (I.faults source.old) (I.faults source.new)
         → ¬ Rose (O.faults out.old) (O.faults out.new) → IsComplete limit (I.left source.old) result }
     ensures read { result ≡ Status.ReadFault → Rose (I.faults source.old) (I.faults source.new) }

@@ -5,6 +5,7 @@ ghost use Rattle.pm_server.specs.Listening.{IsLocal};
 use crate::arrivals::Arrival;
 use crate::doors::Door;
 use crate::errors::OpenError;
+use crate::notices::{Closed, Notices};
 use crate::watch::Watch;
 use mio::net::TcpListener;
 use mio::{Events, Interest, Poll, Token, Waker};
@@ -102,17 +103,26 @@ impl Entrance {
         unreachable!()
     }
 
-    /// Leaves each connection that comes at the door of the worker with the most room, and closes it where none has any.
-    /// It goes on until the server is at its end, or has nothing to wait by.
-    pub fn accept_all<R: Wait + Clock>(&mut self, rt: &R, watch: &Watch, doors: &mut [Door]) {
+    /// Leaves each connection that comes at the door of the worker with the most room, and closes it where none has any,
+    /// of which it tells once a minute at most. It goes on until the server is at its end, or has nothing to wait by.
+    pub fn accept_all<R: Wait + Clock, N: Notices>(
+        &mut self,
+        rt: &R,
+        watch: &Watch,
+        doors: &mut [Door],
+        notices: &mut N,
+    ) {
         let mut number = 0u64;
+        let mut closed = Closed::new();
         for _ in rt.forever() {
             if watch.is_over() {
                 return;
             }
             match self.listener.accept() {
                 Ok((stream, _from)) => {
-                    place(rt, watch, doors, Arrival { number, stream });
+                    if !place(rt, watch, doors, Arrival { number, stream }) {
+                        closed.add(rt, notices);
+                    }
                     number = number.wrapping_add(1);
                 }
                 Err(error) if error.kind() == ErrorKind::WouldBlock => {
@@ -140,13 +150,16 @@ fn roomiest(doors: &mut [Door]) -> Option<&mut Door> {
     doors.get_mut(best?)
 }
 
-// Leaves a connection at a door. What is written to it is sent at once, where the system does that.
-fn place<R: Wait + Clock>(rt: &R, watch: &Watch, doors: &mut [Door], arrival: Arrival) {
+// Leaves a connection at a door, if one has a place for it, and says whether one had. What is written to the connection is
+// sent at once, where the system does that.
+fn place<R: Wait + Clock>(rt: &R, watch: &Watch, doors: &mut [Door], arrival: Arrival) -> bool {
     let _ = arrival.stream.set_nodelay(true);
-    if let Some(door) = roomiest(doors) {
-        door.take_place();
-        leave(rt, watch, door, arrival);
-    }
+    let Some(door) = roomiest(doors) else {
+        return false;
+    };
+    door.take_place();
+    leave(rt, watch, door, arrival);
+    true
 }
 
 // Offers a connection to a worker until it is taken.

@@ -12,9 +12,9 @@ pub enum OpenError {
     /// There was no memory.
     #[error("out of memory")]
     Memory,
-    /// The system refused something else.
-    #[error("listen failed")]
-    System,
+    /// The system refused something else, for this reason.
+    #[error("{0}")]
+    System(ErrorKind),
 }
 
 impl From<Memory> for OpenError {
@@ -37,9 +37,9 @@ impl<T: Drop> From<AllocFailed<T>> for OpenError {
 
 impl From<io::Error> for OpenError {
     fn from(error: io::Error) -> OpenError {
-        if error.kind() == ErrorKind::OutOfMemory {
-            return OpenError::Memory;
+        match error.kind() {
+            ErrorKind::OutOfMemory => OpenError::Memory,
+            kind => OpenError::System(kind),
         }
-        OpenError::System
     }
 }

@@ -1,11 +1,9 @@
 //! A worker's connections, of which those have a turn that the system tells to be ready.
 
-ghost use Rattle.std.specs.Prelude.{◌≡◌, ◌<◌, None, Some, [], IfOk, IfSome, IfNone, true};
+ghost use Rattle.std.specs.Prelude.{◌≡◌, ◌⊎◌, ℕ, None, Some, IfOk, IfSome, IfNone, IsTrue, true, false};
 ghost use Rattle.std.specs.Arc.{arc_value};
-ghost use Rattle.std.specs.Io.KnownBytes.{IsAtEnd};
-ghost use Rattle.pm_model.specs.Lines.{cut};
-ghost use Rattle.pm_worker.specs.declared.turns.Turn.TheVariants as turned;
 ghost use Rattle.pm_worker.specs.Feeding.{number_out};
+ghost use Rattle.pm_worker.specs.declared.feeds.Next.TheVariants as next;
 
 use crate::arrivals::Arrival;
 use crate::errors::OpenError;
@@ -14,10 +12,11 @@ use crate::watch::Watch;
 use mio::{Events, Interest, Poll, Token, Waker};
 use pm_handoff::{Handoff, Taker};
 use pm_io::MioLink;
-use pm_worker::{Conn, Feed, Next, Turn};
+use pm_worker::{Conn, Feed, Next, Served, Turn};
 use slab::Slab;
 use std::alloc::Global;
 use std::marker::Model;
+use std::mem;
 use std::net::Net;
 use std::sync::atomic::{AtomicU64, Ordering};
 use std::sync::{Arc, Wait};
@@ -33,9 +32,9 @@ const LOOK: u64 = 5;
 
 /// A connection that is to have no turn now, and the time of its last one.
 #[derive(Drop)]
-struct Resting {
-    conn: Conn<MioLink>,
-    since: Instant,
+pub struct Resting {
+    pub conn: Conn<MioLink>,
+    pub since: Instant,
 }
 
 /// The connections of one worker: those that the acceptor has left for it, each of which has a turn whenever the system
@@ -64,16 +63,20 @@ pub struct PollFeed<'a, R> {
     looked: Instant,
     out: Option<u64>,
     stopped: bool,
+    // What the system and the watch told when they were asked last.
+    failed: bool,
+    over: bool,
 }
 
 impl<'a, R> Model for PollFeed<'a, R> {
     ghost use Rattle.std.specs.Prelude.{◌≡◌};
     ghost use Rattle.std.specs.Arc.{arc_value};
     ghost use Rattle.pm_server.specs.Polled.{Polled, HasPlaces};
+    ghost use Rattle.pm_server.specs.declared.poll_feed.Resting.{Resting};
 
-    ghost Value = { Polled };
+    ghost Value = { Polled Resting };
 
-    ghost view = { λ f. record { out = f.out; stopped = f.stopped } };
+    ghost view = { λ f. record { conns = f.conns; round = f.round; later = f.later; out = f.out; stopped = f.stopped; failed = f.failed; over = f.over } };
 
     ghost invariant = { λ f. (f.taker.place ≡ (arc_value f.queue).place) × HasPlaces f.out f.conns };
 }
@@ -98,6 +101,8 @@ impl<'a, R> Drop for PollFeed<'a, R> {
             looked: _,
             out: _,
             stopped: _,
+            failed: _,
+            over: _,
         } = self;
     }
 }
@@ -114,6 +119,8 @@ fn gather(events: &Events<Global>, ready: &mut Keys) -> bool {
 }
 
 impl<'a, R: Wait + Clock> PollFeed<'a, R> {
+    ghost use Rattle.pm_server.specs.Polled.{IsFirst, TakesOut, TakesNone};
+
     // A feed with no connections, and what wakes it.
     pub(crate) fn new<N: Net>(
         rt: &'a R,
@@ -150,6 +157,8 @@ impl<'a, R: Wait + Clock> PollFeed<'a, R> {
             looked: now,
             out: None,
             stopped: false,
+            failed: false,
+            over: false,
         };
         Ok((feed, waker))
     }
@@ -180,7 +189,7 @@ impl<'a, R: Wait + Clock> PollFeed<'a, R> {
 
     // A place is free, which one that the acceptor has left may take.
     fn free_place(&mut self)
-        ensures { (self.new.out ≡ self.old.out) × (self.new.stopped ≡ self.old.stopped) }
+        ensures { self.new ≡ self.old }
     {
         self.held.fetch_sub(1, Ordering::SeqCst);
         self.called = true;
@@ -256,14 +265,16 @@ impl<'a, R: Wait + Clock> PollFeed<'a, R> {
     // polling fails, or the server is at its end.
     fn ask(&mut self) -> bool
         requires { self.old.out ≡ None }
-        ensures { (self.new.out ≡ self.old.out) × (self.new.stopped ≡ self.old.stopped) }
+        ensures same { (self.new.out ≡ self.old.out) × (self.new.stopped ≡ self.old.stopped) }
+        ensures no { result ≡ false → (self.new.failed ≡ true) ⊎ (self.new.over ≡ true) }
     {
         let wait = self.wait();
-        if self.poll.poll(&mut self.events, wait).is_err() || self.watch.is_over() {
+        self.failed = self.poll.poll(&mut self.events, wait).is_err();
+        self.over = self.watch.is_over();
+        if self.failed || self.over {
             return false;
         }
-        self.round = self.later;
-        self.later = Keys::none();
+        self.round = mem::replace(&mut self.later, Keys::none());
         let woken = gather(&self.events, &mut self.round);
         self.look();
         if woken || self.called {
@@ -272,9 +283,22 @@ impl<'a, R: Wait + Clock> PollFeed<'a, R> {
         true
     }
 
+    // Begins a new round where this one is over. It says no where there is none to come.
+    fn refill(&mut self) -> bool
+        requires { self.old.out ≡ None }
+        ensures same { (self.new.out ≡ self.old.out) × (self.new.stopped ≡ self.old.stopped) }
+        ensures no { result ≡ false → (self.new.failed ≡ true) ⊎ (self.new.over ≡ true) }
+        ensures within { (key : ℕ) (rest : _) → IsFirst self.old key rest → (self.new ≡ self.old) × (result ≡ true) }
+    {
+        if self.round.is_empty() {
+            return self.ask();
+        }
+        true
+    }
+
     // Tells the acceptor that this worker has begun, the first time.
     fn begin(&mut self)
-        ensures { (self.new.out ≡ self.old.out) × (self.new.stopped ≡ self.old.stopped) }
+        ensures { self.new ≡ self.old }
     {
         if !self.begun {
             self.begun = true;
@@ -285,8 +309,9 @@ impl<'a, R: Wait + Clock> PollFeed<'a, R> {
     // Gives the next of this round, while there are some.
     fn next_of_round(&mut self) -> Option<Conn<MioLink>>
         requires { self.old.out ≡ None }
-        ensures some { IfSome result (λ conn. self.new.out ≡ Some conn.number) }
-        ensures none { IfNone result (self.new.out ≡ None) }
+        ensures some { IfSome result (λ conn. (self.new.out ≡ Some conn.number) × TakesOut self.old self.new conn (λ r. r.conn)) }
+        ensures none { IfNone result ((self.new.out ≡ None) × TakesNone self.old self.new) }
+        ensures same { self.new.stopped ≡ self.old.stopped }
     {
         let key = self.round.take_first()?;
         let Resting { conn, since: _ } = self.conns.try_remove(key)?;
@@ -296,17 +321,21 @@ impl<'a, R: Wait + Clock> PollFeed<'a, R> {
 }
 
 impl<'a, R: Wait + Clock> Feed<MioLink> for PollFeed<'a, R> {
+    ghost use Rattle.pm_server.specs.Polled.{IsFirst, GoesOut, TakesBack};
+
     ghost out = { λ f. f.out };
 
     ghost stopped = { λ f. f.stopped };
 
     fn next(&mut self) -> Next<MioLink>
         requires { self.old.out ≡ None }
-        ensures { (self.new.out ≡ number_out result) × (self.new.out ≡ None → self.new.stopped ≡ true) }
+        ensures given { (self.new.out ≡ number_out result) × (self.new.out ≡ None → self.new.stopped ≡ true) }
+        ensures first { (key : ℕ) (rest : _) → IsFirst self.old key rest → (result ≡ next.Turn rest.conn) × GoesOut self.old self.new key }
+        ensures end { self.new.out ≡ None → (self.new.failed ≡ true) ⊎ (self.new.over ≡ true) }
     {
         self.begin();
         for _ in self.rt.forever() {
-            if self.round.is_empty() && !self.ask() {
+            if !self.refill() {
                 self.watch.end();
                 self.stopped = true;
                 return Next::Stop;
@@ -318,19 +347,21 @@ impl<'a, R: Wait + Clock> Feed<MioLink> for PollFeed<'a, R> {
         unreachable!()
     }
 
-    fn back(&mut self, conn: Conn<MioLink>, turn: Turn)
-        requires number { self.old.out ≡ Some conn.number }
-        requires ended { turn ≡ turned.Ended → IsAtEnd (conn.link).left × (cut conn.session.waiting ≡ None) × (conn.session.output ≡ []) }
-        requires fault { turn ≡ turned.LinkFault → 0 < (conn.link).faults }
-        ensures { self.new.out ≡ None }
+    fn back(&mut self, served: Served<MioLink>)
+        requires { self.old.out ≡ Some served.conn.number }
+        ensures out { self.new.out ≡ None }
+        ensures exact { TakesBack self.old self.new served.turn served.conn (λ r. r.conn) }
+        ensures same { (self.new.round ≡ self.old.round) × (self.new.stopped ≡ self.old.stopped) }
     {
         self.out = None;
         let since = self.now;
-        match turn {
+        match served.turn() {
             Turn::Idle => {
+                let conn = served.into_conn();
                 self.conns.insert_reserved(Resting { conn, since });
             }
             Turn::More => {
+                let conn = served.into_conn();
                 let key = self.conns.insert_reserved(Resting { conn, since });
                 self.later.add(key);
             }

@@ -1,7 +1,7 @@
 -- The live elements listed one after another, and the users among them.
-use Rattle.std.proofs.Common.{◌≡◌, ◌≤◌, ◌+◌, ◌++◌, ℕ, Bool, true, false, List, [], ◌∷◌, length, drop, filter, slice_get, leb, Option, Some, None, option_map, refl, sym, ◌∙◌, ap, subst, arith}
+use Rattle.std.proofs.Common.{◌≡◌, ◌<◌, ◌≤◌, ◌+◌, ◌++◌, ℕ, Bool, true, false, List, [], ◌∷◌, length, drop, filter, slice_get, leb, Option, Some, None, option_map, refl, sym, ◌∙◌, ap, subst, arith, inl, inr}
 use Rattle.std.specs.List.{find}
-use Rattle.std.proofs.lemmas.Bool.{le-leb, lt-leb, leb-true, leb-false}
+use Rattle.std.proofs.lemmas.Bool.{cases_eq, le-leb, lt-leb, leb-true, leb-false, ne_eqb}
 use Rattle.std.proofs.lemmas.List.{append-nil, append_assoc, at_drop_all, length-map}
 use Rattle.std.proofs.lemmas.List.Elements.{filter-append}
 use Rattle.pm_model.specs.Effect.{max_elements}
@@ -76,6 +76,20 @@ least-above es n k h =
     let p = least-found es n k h in
     let low = leb-true n p.0.number (find-found (is_at_least n) es p.0 p.1).1 in
     omega (arith, low, p.2)
+
+past : (n x : ℕ) (es : List Element) → find (is_at_least n) es ≡ None → IsLive es x → x < n
+past n x [] none live = absurd (cc)
+past n x (e ∷ es) none live = of (leb n e.number) refl (past n x es) where
+  of : (b : Bool) → leb n e.number ≡ b → (find (is_at_least n) es ≡ None → IsLive es x → x < n) → x < n
+  of true here rest = absurd (let found : Some e ≡ None = rw here at none in cc)
+  of false here rest = elim (cases_eq e.number x) [
+    | inl is ↦ let low = leb-false n e.number here in omega (arith, low, is)
+    | inr apart ↦ rest (rw here at none) (rw (ne_eqb e.number x apart) at live)
+  ]
+
+-- where no element has a number from n on, each that is live is below
+pub least-past : (es : List Element) (n : ℕ) → None ≡ least_from es n → (x : ℕ) → IsLive es x → x < n
+least-past es n h x live = past n x es (least-none es n h) live
 
 -- ---- the list so far
 

@@ -5,7 +5,7 @@ ghost use Rattle.pm_model.specs.KeptReviews.{subject};
 ghost use Rattle.pm_model.specs.Reviews.{is_user_at, list_of, numbers_in, users_in};
 
 use crate::graph::Graph;
-use crate::judging::GraphJudge;
+use crate::judging::{GraphJudge, UserJudge};
 use pm_model::{ElementId, Kind, Memory, PairList, PlaceList, ReviewOf, UserList};
 use pm_review::{capabilities, entries};
 
@@ -43,17 +43,25 @@ fn push_user(graph: &Graph, users: &mut UserList, id: ElementId) -> Result<(), M
     Ok(())
 }
 
-/// All live users, by rising number.
-pub fn live_users(graph: &Graph) -> Result<UserList, Memory>
+/// Those of all live elements that are users.
+pub(crate) fn users_among(graph: &Graph, elements: &PlaceList) -> Result<UserList, Memory>
+    requires { elements.now ≡ numbers_in graph.now.elements }
     ensures { IfOk result (λ list. list ≡ users_in graph.now.elements) }
 {
     graph.formed();
-    let elements = live_elements(graph)?;
     let mut users = UserList::new(elements.allocator());
     for id in elements.as_slice() {
         push_user(graph, &mut users, *id)?;
     }
     Ok(users)
+}
+
+/// All live users, by rising number.
+pub fn live_users(graph: &Graph) -> Result<UserList, Memory>
+    ensures { IfOk result (λ list. list ≡ users_in graph.now.elements) }
+{
+    let elements = live_elements(graph)?;
+    users_among(graph, &elements)
 }
 
 /// The capabilities of a user: its rights on each live element are asked for once.
@@ -63,7 +71,7 @@ pub fn capabilities_of(graph: &Graph, user: ElementId) -> Result<PairList, Memor
 {
     graph.formed();
     let elements = live_elements(graph)?;
-    let mut judge = GraphJudge::new(graph);
+    let mut judge = UserJudge::new(graph)?;
     capabilities(&mut judge, &elements, user)
 }
 

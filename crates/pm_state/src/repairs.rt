@@ -9,9 +9,9 @@ ghost use Rattle.pm_state.specs.Listing.{AreListed, keeps};
 ghost use Rattle.pm_affect.specs.Counting.{judged_for};
 ghost use Rattle.pm_state.specs.Repairs.{IsAsked, IsCharged, IsDue, is_less};
 
-use crate::asking::{list_of, live_elements, live_users};
+use crate::asking::{list_of, live_elements, users_among};
 use crate::graph::Graph;
-use crate::judging::GraphJudge;
+use crate::judging::UserJudge;
 use pm_affect::{
     KeptLists, Region, list_in_order, lists_right, numbers_rise, region_live, rights_outside,
     touches, update,
@@ -136,9 +136,9 @@ fn judge_again(lists: KeptLists, graph: &Graph, region: &Region) -> Result<KeptL
         return Ok(lists);
     }
     let elements = live_elements(graph)?;
-    let users = live_users(graph)?;
+    let users = users_among(graph, &elements)?;
     let mut reach = graph.reach();
-    let mut judge = GraphJudge::new(graph);
+    let mut judge = UserJudge::new(graph)?;
     update(lists, region, &elements, &users, &mut reach, &mut judge)
 }
 

@@ -11,13 +11,13 @@ use Rattle.clap.specs.declared.error.kind.ErrorKind.TheVariants as kind
 use Rattle.clap.proofs.FaultLemmas.{stopped_fault}
 use Rattle.clap.proofs.OnLiterals.{clap_on_literals}
 use Rattle.clap.proofs.WalkLemmas.{walk_stopped}
-use Rattle.pm_words.specs.Lists.{Entry, entries}
+use Rattle.pm_words.specs.Lists.{Entry, entries, labels_of}
 use Rattle.pm_words.specs.Told.{app, bare_app, value_rule}
 use Rattle.pm_words.proofs.Behind.{IsPlain, built_shape}
 
 -- a word, as the command is built
 abbrev pub built_entry : Entry → Shape
-built_entry entry = built_shape entry.name (filled_from 1 (map value_rule entry.wanted))
+built_entry entry = built_shape entry.name (filled_from 1 (map value_rule (labels_of entry)))
 
 abbrev pub built_top : Shape
 built_top = record bare_app.top { is_leaf = false; is_built = true }

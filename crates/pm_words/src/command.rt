@@ -1,28 +1,40 @@
 //! The command that reads the words.
 ghost use Rattle.std.specs.Prelude.{◌≡◌, IfOk, false, fold, map};
 ghost use Rattle.clap.specs.Words.{app_of, rule_of};
-ghost use Rattle.pm_words.specs.Lists.{entry_of, wanted_of};
-ghost use Rattle.pm_words.specs.Told.{app, bare_app, entry_app, value_rule, with_entry};
+ghost use Rattle.pm_words.specs.Lists.{Wanted, entry_of};
+ghost use Rattle.pm_words.specs.Told.{app, bare_app, entry_app, value_rule, with_entry, word_app};
 
-use crate::grammar::{Entry, WORDS, Wanted};
+use crate::grammar::{Entry, WORDS};
 use clap::{Arg, Command};
 use std::alloc::{AllocError, Global};
 
 // A value that has to be there.
-fn value<'a>(alloc: Global, wanted: &Wanted) -> Arg<'a>
-    ensures rule { rule_of result ≡ value_rule (wanted_of wanted.now) }
+fn value<'a>(alloc: Global, label: &'a str) -> Arg<'a>
+    ensures rule { rule_of result ≡ value_rule label.now }
     ensures local { result.global ≡ false }
 {
-    Arg::new(alloc, wanted.0).required(true)
+    Arg::new(alloc, label).required(true)
+}
+
+// A word with its numbers.
+fn numbered<'a>(alloc: Global, entry: &Entry) -> Result<Command<'a>, AllocError>
+    ensures { IfOk result (λ command. app_of command
+        ≡ word_app (entry_of entry.now).name (map (λ (wanted : Wanted). wanted.label) (entry_of entry.now).wanted)) }
+{
+    let mut command = Command::new(alloc, entry.0);
+    for wanted in entry.1 {
+        command = command.arg(value(alloc, wanted.0))?;
+    }
+    Ok(command)
 }
 
 // A word with its values.
 fn subcommand<'a>(alloc: Global, entry: &Entry) -> Result<Command<'a>, AllocError>
     ensures { IfOk result (λ command. app_of command ≡ entry_app (entry_of entry.now)) }
 {
-    let mut command = Command::new(alloc, entry.0);
-    for wanted in entry.1 {
-        command = command.arg(value(alloc, wanted))?;
+    let mut command = numbered(alloc, entry)?;
+    for text in entry.2 {
+        command = command.arg(value(alloc, text))?;
     }
     Ok(command)
 }

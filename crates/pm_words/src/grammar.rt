@@ -5,8 +5,8 @@
 /// A number that has to stand behind a word: what the usage line calls it, its least and its most.
 pub type Wanted = (&'static str, u16, u16);
 
-/// A word, and the numbers behind it.
-pub type Entry = (&'static str, &'static [Wanted]);
+/// A word, the numbers behind it, and what the usage line calls the texts behind these.
+pub type Entry = (&'static str, &'static [Wanted], &'static [&'static str]);
 
 pub(crate) const SIZE: Wanted = ("N", 1, 200);
 
@@ -14,9 +14,12 @@ pub(crate) const PORT: Wanted = ("PORT", 0, 65535);
 
 pub(crate) const WORKERS: Wanted = ("WORKERS", 1, 32);
 
+pub(crate) const FILE: &str = "FILE";
+
 /// The words that there are: of this list the grammar, the usage line and the command that reads the words are made.
-pub const WORDS: [Entry; 3] = [
-    ("run", &[]),
-    ("generate", &[SIZE]),
-    ("serve", &[PORT, WORKERS]),
+pub const WORDS: [Entry; 4] = [
+    ("run", &[], &[]),
+    ("generate", &[SIZE], &[]),
+    ("serve", &[PORT, WORKERS], &[]),
+    ("serve-journal", &[PORT, WORKERS], &[FILE]),
 ];

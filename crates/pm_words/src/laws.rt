@@ -1,18 +1,20 @@
 //! What the list of words comes to.
 //! Each function does nothing, and its contract is proved.
-ghost use Rattle.std.specs.Prelude.{◌≡◌, ◌↔◌, ◌<◌, ◌≤◌, ℕ, List, [], ◌∷◌, codes, decimal, true};
+ghost use Rattle.std.specs.Prelude.{◌≡◌, ◌≢◌, ◌↔◌, ◌<◌, ◌≤◌, ℕ, List, [], ◌∷◌, codes, decimal, false, true};
 ghost use Rattle.std.specs.List.{list_any};
-ghost use Rattle.pm_words.specs.Told.{is_flag};
-ghost use Rattle.pm_words.specs.Words.{IsRun, IsGenerate, IsServe, IsOther};
+ghost use Rattle.pm_words.specs.Words.{is_flag, IsRun, IsGenerate, IsServe, IsServeJournal, IsOther};
 
 /// The words that there are, written out.
-#[tactic(auto, using(crate::proofs::Values::run_written_out, crate::proofs::Values::generate_written_out, crate::proofs::Values::serve_written_out))]
+#[tactic(auto, using(crate::proofs::Values::run_written_out, crate::proofs::Values::generate_written_out, crate::proofs::Values::serve_written_out, crate::proofs::Values::serve_journal_written_out))]
 pub fn words_written_out()
     ensures run { (words : List (List ℕ)) → IsRun words ↔ (words ≡ codes "run" ∷ []) }
     ensures generate { (words : List (List ℕ)) (size : ℕ) → IsGenerate words size
         ↔ ((words ≡ codes "generate" ∷ decimal size ∷ []) × (0 < size) × (size ≤ 200)) }
     ensures serve { (words : List (List ℕ)) (port workers : ℕ) → IsServe words port workers
         ↔ ((words ≡ codes "serve" ∷ decimal port ∷ decimal workers ∷ []) × (port < 65536) × (0 < workers) × (workers ≤ 32)) }
+    ensures serve_journal { (words : List (List ℕ)) (port workers : ℕ) (file : List ℕ) → IsServeJournal words port workers file
+        ↔ ((words ≡ codes "serve-journal" ∷ decimal port ∷ decimal workers ∷ file ∷ []) × (port < 65536) × (0 < workers) × (workers ≤ 32)
+        × (file ≢ []) × (is_flag file ≡ false)) }
 {}
 
 /// Words of which one begins with `-` are outside the grammar.

@@ -8,4 +8,4 @@ mod words;
 
 pub use grammar::{Entry, WORDS, Wanted};
 pub use laws::{flags_are_outside, words_written_out};
-pub use words::{Asked, read_words};
+pub use words::{Asked, file_in, read_words};

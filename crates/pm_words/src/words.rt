@@ -1,15 +1,15 @@
 //! What the words of the command line ask for.
-ghost use Rattle.std.specs.Prelude.{◌≡◌, ◌<◌, ◌↔◌, ℕ, List, [], ◌∷◌, codes, decimal, drop, map, string_bytes, IfErr, IfOk, IsErr, Some, None, true};
+ghost use Rattle.std.specs.Prelude.{◌≡◌, ◌<◌, ◌↔◌, ℕ, List, [], ◌∷◌, codes, decimal, drop, map, option_map, string_bytes, IfErr, IfOk, IsErr, Some, None, true};
 ghost use Rattle.std.specs.IoError.{error_kind};
 ghost use Rattle.std.specs.List.{list_any};
 ghost use Rattle.std.specs.Vec.Iter.{into_iter_items};
 ghost use Rattle.clap.specs.Words.{found_of, kind_of, rows_of, subcommand_rows_of};
 ghost use Rattle.pm_words.specs.Lists.{wanted_of};
-ghost use Rattle.pm_words.specs.Told.{is_flag, IsValue, Tells, TellsMet};
-ghost use Rattle.pm_words.specs.Words.{words_of, AskRun, AskGenerate, AskServe, AskOther, IsAsked};
+ghost use Rattle.pm_words.specs.Told.{asks_journal, IsText, IsValue, Tells, TellsMet};
+ghost use Rattle.pm_words.specs.Words.{is_flag, words_of, AskFile, AskRun, AskGenerate, AskServe, AskServeJournal, AskOther, HasFile, IsAsked};
 
 use crate::command::make_command;
-use crate::grammar::{PORT, SIZE, WORKERS, Wanted};
+use crate::grammar::{FILE, PORT, SIZE, WORKERS, Wanted};
 use clap::error::ErrorKind as Refusal;
 use clap::{ArgMatches, Error};
 use itoa::Buffer;
@@ -28,6 +28,8 @@ pub enum Asked {
     Generate { size: u16 },
     /// A server on this port, with so many workers.
     Serve { port: u16, workers: u16 },
+    /// The same, with a journal in the file that `file_in` tells.
+    ServeJournal { port: u16, workers: u16 },
 }
 
 // The number that the word is, in decimal digits with no zero in front.
@@ -56,6 +58,17 @@ fn value(values: &ArgMatches<'_>, wanted: &Wanted) -> Option<u16>
     Some(value)
 }
 
+// The value of this name, where it isn't empty.
+fn text<'a>(values: &ArgMatches<'a>, label: &str) -> Option<&'a str>
+    ensures { (t : List ℕ) → (option_map (λ text. text.now) result ≡ Some t) ↔ IsText (found_of values.now) label.now t }
+{
+    let text = values.get_str(label)?;
+    if text.is_empty() {
+        return None;
+    }
+    Some(text)
+}
+
 // The run that the value of `generate` asks for.
 fn generator(values: &ArgMatches<'_>) -> Option<Asked>
     ensures { (words : List (List ℕ)) → Tells words (codes "generate") (rows_of (found_of values.now)) → IsAsked words result }
@@ -73,6 +86,16 @@ fn server(values: &ArgMatches<'_>) -> Option<Asked>
     Some(Asked::Serve { port, workers })
 }
 
+// The server with a journal that the values of `serve-journal` ask for.
+fn journal_server(values: &ArgMatches<'_>) -> Option<Asked>
+    ensures { (words : List (List ℕ)) → Tells words (codes "serve-journal") (rows_of (found_of values.now)) → IsAsked words result }
+{
+    let port = value(values, &PORT)?;
+    let workers = value(values, &WORKERS)?;
+    let _file = text(values, FILE)?;
+    Some(Asked::ServeJournal { port, workers })
+}
+
 // What the word of this name asks for with these values.
 fn told_by(name: &str, values: &ArgMatches<'_>) -> Option<Asked>
     ensures { (words : List (List ℕ)) → Tells words name.now (rows_of (found_of values.now)) → IsAsked words result }
@@ -81,6 +104,7 @@ fn told_by(name: &str, values: &ArgMatches<'_>) -> Option<Asked>
         "run" => Some(Asked::Run),
         "generate" => generator(values),
         "serve" => server(values),
+        "serve-journal" => journal_server(values),
         _ => None,
     }
 }
@@ -143,6 +167,7 @@ pub fn read_words(alloc: Global, args: io::Result<Args>) -> Result<Option<Asked>
     ensures run { IfOk result (λ asked. (asked ≡ Some Asked.Run) ↔ AskRun args) }
     ensures generate { (n : ℕ) → IfOk result (λ asked. (asked ≡ Some (Asked.Generate n)) ↔ AskGenerate args n) }
     ensures serve { (p w : ℕ) → IfOk result (λ asked. (asked ≡ Some (Asked.Serve p w)) ↔ AskServe args p w) }
+    ensures serve_journal { (p w : ℕ) → IfOk result (λ asked. (asked ≡ Some (Asked.ServeJournal p w)) ↔ AskServeJournal args p w) }
     ensures other { IfOk result (λ asked. (asked ≡ None) ↔ AskOther args) }
     ensures memory { IfErr args (λ error. IsErr result ↔ (error_kind error ≡ ErrorKind.OutOfMemory)) }
 {
@@ -151,6 +176,39 @@ pub fn read_words(alloc: Global, args: io::Result<Args>) -> Result<Option<Asked>
             let words = words_in(alloc, args)?;
             asked_in(alloc, words.as_slice())
         }
+        Err(error) if error.kind() == ErrorKind::OutOfMemory => Err(Memory),
+        Err(_) => Ok(None),
+    }
+}
+
+// Whether a server with a journal is asked for.
+fn asks_journal(asked: Option<Asked>) -> bool
+    ensures { result ≡ asks_journal asked }
+{
+    matches!(asked, Some(Asked::ServeJournal { .. }))
+}
+
+// The file of the journal that the words ask for; None where they ask for none.
+fn file_behind(alloc: Global, args: Args) -> Result<Option<String>, Memory>
+    ensures { (text : List ℕ) → IfOk result (λ file. (option_map string_bytes file ≡ Some text) ↔ HasFile (words_of args) text) }
+{
+    let mut words = words_in(alloc, args)?;
+    let asked = asked_in(alloc, words.as_slice())?;
+    if asks_journal(asked) {
+        return Ok(words.pop());
+    }
+    Ok(None)
+}
+
+/// The file of the journal that the words, as the system gives them, ask for; None where they ask for none.
+///
+/// To read them takes memory, and where there is none the file is not told.
+pub fn file_in(alloc: Global, args: io::Result<Args>) -> Result<Option<String>, Memory>
+    ensures file { (text : List ℕ) → IfOk result (λ file. (option_map string_bytes file ≡ Some text) ↔ AskFile args text) }
+    ensures memory { IfErr args (λ error. IsErr result ↔ (error_kind error ≡ ErrorKind.OutOfMemory)) }
+{
+    match args {
+        Ok(args) => file_behind(alloc, args),
         Err(error) if error.kind() == ErrorKind::OutOfMemory => Err(Memory),
         Err(_) => Ok(None),
     }

@@ -3,3 +3,4 @@ pub mod Wiring
 pub mod Turning
 pub mod Talking
 pub mod Meeting
+pub mod Working

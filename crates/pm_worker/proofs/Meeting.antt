@@ -8,27 +8,12 @@ use Rattle.std.proofs.lemmas.Grind.{get_or-set_at}
 use Rattle.pm_world.proofs.Prefixes.{prefix-self, prefix-trans}
 use Rattle.pm_house.specs.Seated.{Seated, Rests, Meets}
 use Rattle.pm_model.specs.declared.requests.Entry.{Entry}
-use Rattle.pm_worker.specs.Feeding.{Works, HasMet}
-
-pub works_same : (s : Seated) → Works s s
-works_same s = record { grows = prefix-self s.machine.history; seat = refl }
-
-pub works_then : (s t u : Seated) → Works s t → Works t u → Works s u
-works_then s t u v w = record {
-  grows = prefix-trans s.machine.history t.machine.history u.machine.history v.grows w.grows;
-  seat = w.seat ∙ v.seat;
-}
-
-pub works_rests : (s t u : Seated) → Works s t → Rests t u → Works s u
-works_rests s t u w r = record {
-  grows = prefix-trans s.machine.history t.machine.history u.machine.history w.grows r.hears.grows;
-  seat = ap (λ l. l.seat) r.lane ∙ w.seat;
-}
+use Rattle.pm_worker.specs.Feeding.{HasMet}
 
 -- the seat goes on
 pub met_later : {F : Type 0} (s t a b : Seated) (f g : F) → HasMet s a b f g → Rests s t → HasMet t a b f g
 met_later s t a b f g h r = record {
-  works = h.works;
+  rests = h.rests;
   front = prefix-trans b.machine.history s.machine.history t.machine.history h.front r.hears.grows;
   feed = h.feed;
 }
@@ -36,7 +21,7 @@ met_later s t a b f g h r = record {
 -- it meets this one
 pub met_now : {F : Type 0} (s a b : Seated) (f g : F) → g ≡ f → Rests a b → Meets s b → HasMet s a b f g
 met_now s a b f g same r m = record {
-  works = works_rests a a b (works_same a) r;
+  rests = r;
   front = subst (λ (l : List Entry). IsPrefix l s.machine.history) (sym (ap (λ k. k.history) m.one)) (prefix-self s.machine.history);
   feed = same;
 }
@@ -77,10 +62,10 @@ rest_left before now place x old i d behind =
     get_or-set_other now place i x d (λ same. omega (arith, same, behind)) ∙ old i d (omega (arith, behind))
 
 -- the first member itself, and all others
-pub met_all_of : {F X : Type 0} (seat : X → Seated) (feed : X → F) (before after : X) (xs ys : List X) → Works (seat before) (seat after) → feed after ≡ feed before
+pub met_all_of : {F X : Type 0} (seat : X → Seated) (feed : X → F) (before after : X) (xs ys : List X) → Rests (seat before) (seat after) → feed after ≡ feed before
     → ((i : ℕ) (d : X) → i < length xs → HasMet (seat after) (seat (slice_index_or xs i d)) (seat (slice_index_or ys i d)) (feed (slice_index_or xs i d)) (feed (slice_index_or ys i d)))
     → (i : ℕ) (d : X) → i < length (before ∷ xs)
     → HasMet (seat after) (seat (slice_index_or (before ∷ xs) i d)) (seat (slice_index_or (after ∷ ys) i d)) (feed (slice_index_or (before ∷ xs) i d)) (feed (slice_index_or (after ∷ ys) i d))
-met_all_of seat feed before after xs ys w same others zero d below =
-    record { works = w; front = prefix-self (seat after).machine.history; feed = same }
-met_all_of seat feed before after xs ys w same others (suc i) d below = others i d (omega (arith, below))
+met_all_of seat feed before after xs ys r same others zero d below =
+    record { rests = r; front = prefix-self (seat after).machine.history; feed = same }
+met_all_of seat feed before after xs ys r same others (suc i) d below = others i d (omega (arith, below))

@@ -2,7 +2,9 @@
 
 ghost use Rattle.std.specs.Prelude.{◌≡◌, ◌<◌, ℕ, None, true, All, length, slice_index_or};
 ghost use mathlib.Core.List.{IsPrefix};
-ghost use Rattle.pm_worker.specs.Feeding.{Works, HasMet};
+ghost use Rattle.pm_house.specs.Desks.{NeverFails};
+ghost use Rattle.pm_house.specs.Seated.{Rests};
+ghost use Rattle.pm_worker.specs.Feeding.{Works, WorksAndMeets, HasMet};
 
 use crate::feeds::{Feed, work};
 use crate::gates::Gate;
@@ -46,7 +48,7 @@ fn work_one<
 >(rt: &R, alloc: Global, house: &House<V, K, H>, gate: &G, member: &mut Crew<F, V, H>)
     requires { F.out member.old.feed ≡ None }
     ensures stopped { F.stopped member.new.feed ≡ true }
-    ensures works { Works member.old.seat member.new.seat }
+    ensures works { Works (NeverFails K.faults) member.old.seat member.new.seat }
 {
     work(rt, alloc, house, &mut member.seat, &mut member.feed, gate)
 }
@@ -64,7 +66,7 @@ fn work_all<
     requires { All (λ m. F.out m.feed ≡ None) crew.old }
     ensures count { length crew.new ≡ length crew.old }
     ensures stopped { (i : ℕ) (d : _) → i < length crew.old → F.stopped (slice_index_or crew.new i d).feed ≡ true }
-    ensures works { (i : ℕ) (d : _) → i < length crew.old → Works (slice_index_or crew.old i d).seat (slice_index_or crew.new i d).seat }
+    ensures works { (i : ℕ) (d : _) → i < length crew.old → Works (NeverFails K.faults) (slice_index_or crew.old i d).seat (slice_index_or crew.new i d).seat }
 {
     thread::for_each_mut(
         rt,
@@ -73,7 +75,7 @@ fn work_all<
         &|_, member: &mut Crew<F, V, H>|
             requires { F.out member.old.feed ≡ None }
             ensures stopped { F.stopped member.new.feed ≡ true }
-            ensures works { Works member.old.seat member.new.seat }
+            ensures works { Works (NeverFails K.faults) member.old.seat member.new.seat }
         { work_one(rt, alloc, house, gate, member) },
     );
 }
@@ -85,10 +87,11 @@ fn meet_each<V: Version, K: Keep + Drop, H: Home, F, R: Wait>(
     first: &mut Seat<V, H>,
     others: &mut [Crew<F, V, H>],
 )
-    ensures first { Works first.old first.new }
+    ensures first { Rests first.old first.new }
     ensures count { length others.new ≡ length others.old }
     ensures met { (i : ℕ) (d : _) → i < length others.old → HasMet first.new (slice_index_or others.old i d).seat (slice_index_or others.new i d).seat (slice_index_or others.old i d).feed (slice_index_or others.new i d).feed }
 {
+    first.still();
     for place in 0..others.len() {
         house.meet(rt, first, &mut others[place].seat);
     }
@@ -110,7 +113,7 @@ fn meet_all<V: Version, K: Keep + Drop, H: Home, F, R: Wait>(
 
 /// Each member works in a thread of its own, until its feed has stopped; where no thread can be made, members work one
 /// after another. Once all have ended, the first member's seat meets each other one's, so that what each shows begins what
-/// the first one shows.
+/// the first one shows. All the lines that a member's seat has answered are one transcript of it, whoever asked them.
 pub fn run_workers<
     L: Link + Drop + Send,
     V: Version + Send + Sync,
@@ -122,7 +125,7 @@ pub fn run_workers<
 >(rt: &R, alloc: Global, house: &House<V, K, H>, crew: &mut [Crew<F, V, H>], gate: &G)
     requires { All (λ m. F.out m.feed ≡ None) crew.old }
     ensures stopped { (i : ℕ) (d : _) → i < length crew.old → F.stopped (slice_index_or crew.new i d).feed ≡ true }
-    ensures works { (i : ℕ) (d : _) → i < length crew.old → Works (slice_index_or crew.old i d).seat (slice_index_or crew.new i d).seat }
+    ensures works { (i : ℕ) (d : _) → i < length crew.old → WorksAndMeets (NeverFails K.faults) (slice_index_or crew.old i d).seat (slice_index_or crew.new i d).seat }
     ensures met { (i : ℕ) (d : _) → i < length crew.old → IsPrefix (slice_index_or crew.new i d).seat.machine.history (slice_index_or crew.new 0 d).seat.machine.history }
 {
     work_all(rt, alloc, house, crew, gate);

@@ -1,15 +1,13 @@
 //! Where a worker's connections come from, as a trait, and the worker's loop.
 
-ghost use Rattle.std.specs.Prelude.{◌≡◌, ◌<◌, ℕ, Bool, true, Option, Some, None, []};
-ghost use Rattle.std.specs.Io.KnownBytes.{IsAtEnd};
-ghost use Rattle.pm_model.specs.Lines.{cut};
-ghost use Rattle.pm_worker.specs.declared.turns.Turn.TheVariants as turned;
+ghost use Rattle.std.specs.Prelude.{◌≡◌, ℕ, Bool, true, Option, Some, None};
+ghost use Rattle.pm_house.specs.Desks.{NeverFails};
 ghost use Rattle.pm_worker.specs.Feeding.{number_out, Works};
+ghost use Rattle.pm_worker.specs.Served.{IsServed};
 
 use crate::conn::Conn;
 use crate::gates::Gate;
-use crate::serving::serve_turn;
-use crate::turns::Turn;
+use crate::served::Served;
 use pm_house::{Home, House, Seat};
 use pm_io::Link;
 use pm_machine::Version;
@@ -39,16 +37,15 @@ pub trait Feed<L: Link> {
         requires { out self.old ≡ None }
         ensures { (out self.new ≡ number_out result) × (out self.new ≡ None → stopped self.new ≡ true) };
 
-    /// The connection that it gave comes back, after a turn that ended so. One that has ended has no input, no whole line
-    /// and no output; the link of a LinkFault has failed.
-    fn back(&mut self, conn: Conn<L>, turn: Turn)
-        requires number { out self.old ≡ Some conn.number }
-        requires ended { turn ≡ turned.Ended → IsAtEnd (L.wire conn.link).left × (cut conn.session.waiting ≡ None) × (conn.session.output ≡ []) }
-        requires fault { turn ≡ turned.LinkFault → 0 < (L.wire conn.link).faults }
+    /// The connection that it gave comes back, after a turn.
+    fn back(&mut self, served: Served<L>)
+        requires number { out self.old ≡ Some served.conn.number }
+        requires served { IsServed L.wire served.conn served.turn }
         ensures { out self.new ≡ None };
 }
 
 /// Serves what a feed gives, until it stops.
+#[tactic(auto, using(crate::proofs::Working::works_still))]
 pub fn work<
     L: Link + Drop,
     V: Version,
@@ -61,14 +58,14 @@ pub fn work<
     requires { F.out feed.old ≡ None }
     ensures stopped { F.stopped feed.new ≡ true }
     ensures out { F.out feed.new ≡ None }
-    ensures works { Works seat.old seat.new }
+    ensures works { Works (NeverFails K.faults) seat.old seat.new }
 {
+    seat.still();
     for _ in rt.forever() {
         match feed.next() {
             Next::Turn(conn) => {
-                let mut conn = conn;
-                let turn = serve_turn(rt, alloc, house, seat, &mut conn, gate);
-                feed.back(conn, turn);
+                let served = Served::serve(rt, alloc, house, seat, conn, gate);
+                feed.back(served);
             }
             Next::Stop => return,
         }

@@ -1,37 +1,23 @@
 //! A feed over a list.
 
-ghost use Rattle.std.specs.Prelude.{◌≡◌, ◌<◌, ◌++◌, ◌∷◌, true, false, Some, None, [], IfOk, IfSome, IfNone, if◌then◌else◌, slice_get};
-ghost use Rattle.std.specs.Io.KnownBytes.{IsAtEnd};
-ghost use Rattle.pm_model.specs.Lines.{cut};
-ghost use Rattle.pm_worker.specs.declared.turns.Turn.TheVariants as turned;
+ghost use Rattle.std.specs.Prelude.{◌≡◌, ◌++◌, ◌∷◌, true, false, Some, None, [], IfOk, IfSome, IfNone, if◌then◌else◌, slice_get};
 ghost use Rattle.pm_worker.specs.Feeding.{number_out, Gives, goes_on};
 
 use crate::conn::Conn;
 use crate::feeds::{Feed, Next};
+use crate::served::Served;
 use crate::turns::Turn;
 use pm_io::Link;
 use pm_model::Memory;
 use std::alloc::Global;
 use std::marker::Model;
 
-/// A connection whose last turn is over, and how that ended.
-pub struct Over<L> {
-    pub conn: Conn<L>,
-    pub turn: Turn,
-}
-
-impl<L: Drop> Drop for Over<L> {
-    fn drop(self) {
-        let Over { conn: _, turn: _ } = self;
-    }
-}
-
 /// The connections of a list, each of which has one turn after another, by turns with the others, until it has ended, its
 /// link has failed, or there was no memory.
 pub struct ListFeed<L> {
     going: Vec<Conn<L>>,
     out: Option<u64>,
-    done: Vec<Over<L>>,
+    done: Vec<Served<L>>,
     stopped: bool,
 }
 
@@ -74,8 +60,8 @@ impl<L: Drop> ListFeed<L> {
 
 impl<L> ListFeed<L> {
     /// Of the connections whose last turn is over, in the order in which they came to that, the one at this place.
-    pub fn done(&self, i: usize) -> Option<&Over<L>>
-        ensures some { IfSome result (λ over. slice_get self.now.done i ≡ Some over.now) }
+    pub fn done(&self, i: usize) -> Option<&Served<L>>
+        ensures some { IfSome result (λ served. slice_get self.now.done i ≡ Some served.now) }
         ensures none { IfNone result (slice_get self.now.done i ≡ None) }
     {
         self.done.get(i)
@@ -110,19 +96,17 @@ impl<L: Link + Drop> Feed<L> for ListFeed<L> {
         Next::Turn(conn)
     }
 
-    fn back(&mut self, conn: Conn<L>, turn: Turn)
-        requires number { self.old.out ≡ Some conn.number }
-        requires ended { turn ≡ turned.Ended → IsAtEnd (L.wire conn.link).left × (cut conn.session.waiting ≡ None) × (conn.session.output ≡ []) }
-        requires fault { turn ≡ turned.LinkFault → 0 < (L.wire conn.link).faults }
+    fn back(&mut self, served: Served<L>)
+        requires { self.old.out ≡ Some served.conn.number }
         ensures out { self.new.out ≡ None }
-        ensures exact { self.new ≡ (if goes_on turn then record self.old { out = None; going = self.old.going ++ conn ∷ [] }
-            else record self.old { out = None; done = self.old.done ++ record { conn = conn; turn = turn } ∷ [] }) }
+        ensures exact { self.new ≡ (if goes_on served.turn then record self.old { out = None; going = self.old.going ++ served.conn ∷ [] }
+            else record self.old { out = None; done = self.old.done ++ served ∷ [] }) }
     {
         self.out = None;
-        if goes_on(turn) {
-            self.going.push_reserved(conn);
+        if goes_on(served.turn()) {
+            self.going.push_reserved(served.into_conn());
             return;
         }
-        self.done.push_reserved(Over { conn, turn });
+        self.done.push_reserved(served);
     }
 }

@@ -4,3 +4,5 @@ pub mod Joined
 pub mod Single
 pub mod Schedules
 pub mod Computed
+mod Restored
+mod Awaited

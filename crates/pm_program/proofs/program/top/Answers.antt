@@ -1,7 +1,7 @@
 use Rattle.std.proofs.Common.{◌∙◌, Some, ap, arith}
-use Rattle.pm_run.proofs.Ending.{ran-nothing, ran-serve, ran-usage}
+use Rattle.pm_run.proofs.Ending.{ran-nothing, ran-serve, ran-serve_journal, ran-usage}
 use Rattle.pm_program.proofs.Summing.{is_size}
-use Rattle.pm_program.proofs.program.top.Goals.{in-Ok-Some-Run, in-Ok-Some-Generate, in-Ok-Some-Serve, in-Ok-None, in-Err}
+use Rattle.pm_program.proofs.program.top.Goals.{in-Ok-Some-Run, in-Ok-Some-Generate, in-Ok-Some-Serve, in-Ok-Some-ServeJournal, in-Ok-None, in-Err}
 use Rattle.pm_program.proofs.program.top.Goals as goal
 
 pub run_generated-status-requires-after_bounds : goal.run_generated-status-requires-after_bounds
@@ -15,6 +15,7 @@ returns-clause-unwritten g c = λ run none. elim c.match-read_words.branch [
   | in-Ok-Some-Generate w ↦
       let arm = w.in-Ok-Some-Generate in absurd (none arm.size ((arm.ensures.generate arm.size).0 (arm.field-0-is ∙ ap Some arm.field-0-0-is)))
   | in-Ok-Some-Serve w ↦ w.out-is
+  | in-Ok-Some-ServeJournal w ↦ w.out-is
   | in-Ok-None w ↦ w.out-is
   | in-Err w ↦ w.out-is
 ]
@@ -25,6 +26,7 @@ returns-clause-ran g c = λ none. elim c.match-read_words.branch [
   | in-Ok-Some-Generate w ↦
       let arm = w.in-Ok-Some-Generate in absurd (none arm.size ((arm.ensures.generate arm.size).0 (arm.field-0-is ∙ ap Some arm.field-0-0-is)))
   | in-Ok-Some-Serve w ↦ rw (w.source-is, w.out-is, w.status-is) (ran-serve _ _ _ _ _ (omega arith))
+  | in-Ok-Some-ServeJournal w ↦ rw (w.source-is, w.out-is, w.status-is) (ran-serve_journal _ _ _ _ _ (omega arith))
   | in-Ok-None w ↦ rw (w.source-is, w.out-is, w.status-is) (ran-usage _ _ _ (omega arith))
   | in-Err w ↦ rw (w.source-is, w.out-is, w.status-is) (ran-nothing _ _ _)
 ]

@@ -7,5 +7,5 @@ use Rattle.pm_state.proofs.asking.capabilities_of.Goals as goal
 pub capabilities-requires-clause-elements : goal.capabilities-requires-clause-elements
 capabilities-requires-clause-elements c =
     let G = c.args.graph.now in
-    rw (c.new-judge.ensures.graph, c.in_ok-elements.ensures)
+    rw (c.in_ok-judge.ensures.graph, c.in_ok-elements.ensures)
     (each-all (IsLive G.elements) (numbers_in G.elements) (elements_live G c.formed.ensures))

@@ -2,7 +2,7 @@ use Rattle.std.proofs.Common.{◌∙◌, sym, map, true≢false}
 use Rattle.std.specs.Prelude.{string_bytes}
 use Rattle.clap.specs.Simple.{app_of}
 use Rattle.clap.proofs.WalkLemmas.{list_any-map}
-use Rattle.pm_words.specs.Told.{is_flag}
+use Rattle.pm_words.specs.Words.{is_flag}
 use Rattle.pm_words.proofs.Asking.{flagged, read_by, refused}
 use Rattle.pm_words.proofs.words.asked_in.Goals as goal
 

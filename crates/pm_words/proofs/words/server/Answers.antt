@@ -6,15 +6,15 @@ use Rattle.pm_words.proofs.words.server.Goals as goal
 pub returns-in_err-port : goal.returns-in_err-port
 returns-in_err-port c words tells =
     let found = found_of c.args.values.now in
-    rw c.from_residual.ensures (other_by words (codes "serve") found tells (λ ns. fails_at found [] port (workers ∷ []) ns c.in_err-port.ensures))
+    rw c.from_residual.ensures (other_by words (codes "serve") found tells (λ ns ts read given. fails_at found [] port (workers ∷ []) ns c.in_err-port.ensures read))
 
 pub returns-in_err-workers : goal.returns-in_err-workers
 returns-in_err-workers c words tells =
     let found = found_of c.args.values.now in
-    rw c.from_residual-in_err-workers.ensures (other_by words (codes "serve") found tells (λ ns. fails_at found (port ∷ []) workers [] ns c.in_err-workers.ensures))
+    rw c.from_residual-in_err-workers.ensures (other_by words (codes "serve") found tells (λ ns ts read given. fails_at found (port ∷ []) workers [] ns c.in_err-workers.ensures read))
 
 pub returns : goal.returns
 returns c words tells =
     let is_port = (c.in_ok-port.ensures c.in_ok-port.port).0 refl in
     let are_workers = (c.in_ok-workers.ensures c.in_ok-workers.workers).0 refl in
-    said_by words (codes "serve") (found_of c.args.values.now) tells (c.in_ok-port.port ∷ c.in_ok-workers.workers ∷ []) (is_port, (are_workers, tt))
+    said_by words (codes "serve") (found_of c.args.values.now) tells (c.in_ok-port.port ∷ c.in_ok-workers.workers ∷ []) [] (is_port, (are_workers, tt)) tt

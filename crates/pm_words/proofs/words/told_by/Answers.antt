@@ -7,7 +7,7 @@ use Rattle.pm_words.proofs.words.told_by.Goals as goal
 pub returns-in-run : goal.returns-in-run
 returns-in-run c words tells =
     let found = found_of c.args.values.now in
-    said_by words (codes "run") found (subst (λ name. Tells words name (rows_of found)) c.in-run.is tells) [] tt
+    said_by words (codes "run") found (subst (λ name. Tells words name (rows_of found)) c.in-run.is tells) [] [] tt tt
 
 pub returns-in-generate : goal.returns-in-generate
 returns-in-generate c words tells =
@@ -19,6 +19,11 @@ returns-in-serve c words tells =
     let rows = rows_of (found_of c.args.values.now) in
     c.server.ensures words (subst (λ name. Tells words name rows) c.in-serve.is tells)
 
+pub returns-in-text : goal.returns-in-text
+returns-in-text c words tells =
+    let rows = rows_of (found_of c.args.values.now) in
+    c.journal_server.ensures words (subst (λ name. Tells words name rows) c.in-text.is tells)
+
 pub returns-in_default : goal.returns-in_default
 returns-in_default c words tells =
-    absurd (other_told words c.args.name.now (rows_of (found_of c.args.values.now)) tells c.in_default.not-run c.in_default.not-generate c.in_default.not-serve)
+    absurd (other_told words c.args.name.now (rows_of (found_of c.args.values.now)) tells c.in_default.not-run c.in_default.not-generate c.in_default.not-serve c.in_default.not-text)

@@ -1,5 +1,10 @@
-use Rattle.std.proofs.Common.{◌≡◌, None}
+use Rattle.std.proofs.Common.{◌≡◌, ℕ, None}
+use Rattle.pm_server.specs.Polled.{IsFirst}
+use Rattle.pm_server.specs.declared.poll_feed.Resting.{Resting}
 use Rattle.pm_server.proofs.poll_feed.PollFeedFeedMioLink.next.Given as goal
 
 abbrev pub invariant-loop : goal.invariant-loop
-invariant-loop g l = l.self.out ≡ None
+invariant-loop g l = record {
+  out : l.self.out ≡ None;
+  within : (key : ℕ) (rest : Resting) → IsFirst l.fn.self key rest → IsFirst l.self key rest × (l.self.conns ≡ l.fn.self.conns) × (l.self.later ≡ l.fn.self.later);
+}

@@ -1,0 +1,2 @@
+pub mod PastKept
+pub mod Stepping

@@ -1,0 +1,4 @@
+pub mod Disks
+pub mod Steps
+pub mod Past
+pub mod Files

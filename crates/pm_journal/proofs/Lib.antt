@@ -1,0 +1,16 @@
+mod Moments
+mod Shapes
+mod Bodies
+mod Records
+mod Standing
+mod Sound
+mod Results
+mod Filling
+mod Windows
+mod Unique
+mod Resuming
+mod Pieces
+mod Keeping
+mod Opening
+mod ItemByItem
+mod Parts

@@ -1,0 +1,9 @@
+pub mod Notes
+pub mod Images
+pub mod Journals
+pub mod Reading
+pub mod Founds
+pub mod Ends
+pub mod Kept
+pub mod Heads
+pub mod Opens

@@ -1,0 +1,153 @@
+//! Whether a line can ask for the actions of a response.
+
+ghost use Rattle.std.specs.Prelude.{◌≤◌, IsTrue, length};
+ghost use Rattle.pm_model.specs.Formed.{Each};
+ghost use Rattle.pm_print.specs.Askable.{AreActions, AreBars, AreRights, IsAct, IsAction, IsGiven, IsGuard, IsProcessTerm, IsSubject, IsTerm};
+
+use crate::askable::{are_few, are_rights, is_contained, is_named, is_short};
+use pm_model::{Act, Action, Guard, NameList, ProcessTerm, Response, Subject, Term, TermList};
+
+const MOST_GUARDS: usize = 4;
+
+fn is_term(term: &Term) -> bool
+    ensures { IsTrue result → IsTerm term.now }
+{
+    match term {
+        Term::Named(name) => is_named(name),
+        Term::EventUser | Term::EventTarget => true,
+        Term::Fresh => false,
+    }
+}
+
+fn both_terms(one: &Term, other: &Term) -> bool
+    ensures { IsTrue result → IsTerm one.now × IsTerm other.now }
+{
+    is_term(one) && is_term(other)
+}
+
+fn are_terms(terms: &[Term]) -> bool
+    ensures { IsTrue result → Each IsTerm terms.now }
+{
+    for i in 0..terms.len() {
+        if !is_term(&terms[i]) {
+            return false;
+        }
+    }
+    true
+}
+
+// What may be given to what is made.
+fn is_given(term: &Term) -> bool
+    ensures { IsTrue result → IsGiven term.now }
+{
+    match term {
+        Term::Named(name) => is_named(name),
+        Term::Fresh => true,
+        Term::EventUser | Term::EventTarget => false,
+    }
+}
+
+fn is_process(term: &ProcessTerm) -> bool
+    ensures { IsTrue result → IsProcessTerm term.now }
+{
+    match term {
+        ProcessTerm::Number(n) => is_short(*n),
+        ProcessTerm::EventProcess => true,
+    }
+}
+
+fn is_subject(subject: &Subject<Term, ProcessTerm>) -> bool
+    ensures { IsTrue result → IsSubject IsTerm IsProcessTerm subject.now }
+{
+    match subject {
+        Subject::User(term) => is_term(term),
+        Subject::Ua(term) => is_term(term),
+        Subject::Process(process) => is_process(process),
+    }
+}
+
+fn is_guard(guard: &Guard) -> bool
+    ensures { IsTrue result → IsGuard guard.now }
+{
+    both_terms(&guard.inner, &guard.outer)
+}
+
+fn are_guards(guards: &[Guard]) -> bool
+    ensures { IsTrue result → Each IsGuard guards.now }
+{
+    for i in 0..guards.len() {
+        if !is_guard(&guards[i]) {
+            return false;
+        }
+    }
+    true
+}
+
+fn are_bars(
+    name: &Term,
+    subject: &Subject<Term, ProcessTerm>,
+    rights: &NameList,
+    inc: &TermList,
+    exc: &TermList,
+) -> bool
+    ensures { IsTrue result → AreBars AreRights name.now subject.now rights.now inc.now exc.now }
+{
+    is_given(name)
+        && is_subject(subject)
+        && are_rights(rights)
+        && are_terms(inc.as_slice())
+        && are_terms(exc.as_slice())
+        && are_few(inc.len(), exc.len())
+}
+
+fn is_act(act: &Act) -> bool
+    ensures { IsTrue result → IsAct AreRights act.now }
+{
+    match act {
+        Act::Create { kind, name, into } => {
+            is_contained(*kind) && is_given(name) && is_term(into)
+        }
+        Act::Delete { name } => is_term(name),
+        Act::Assign { from, to } => both_terms(from, to),
+        Act::Deassign { from, to } => both_terms(from, to),
+        Act::Associate { ua, rights, at } => are_rights(rights) && both_terms(ua, at),
+        Act::Dissociate { ua, at } => both_terms(ua, at),
+        Act::Prohibit {
+            name,
+            subject,
+            rights,
+            inc,
+            exc,
+            mode: _,
+        } => are_bars(name, subject, rights, inc, exc),
+        Act::Lift { name } => is_named(name),
+    }
+}
+
+fn is_action(action: &Action) -> bool
+    ensures { IsTrue result → IsAction AreRights action.now }
+{
+    action.guards.len() <= MOST_GUARDS
+        && are_guards(action.guards.as_slice())
+        && is_act(&action.act)
+}
+
+fn each_action(actions: &[Action]) -> bool
+    ensures { IsTrue result → Each (IsAction AreRights) actions.now }
+{
+    for i in 0..actions.len() {
+        if !is_action(&actions[i]) {
+            return false;
+        }
+    }
+    true
+}
+
+/// Whether a line can give the response.
+#[tactic(auto, using(crate::proofs::ItemByItem::response_fits))]
+pub(crate) fn are_actions(response: &Response) -> bool
+    ensures { IsTrue result → AreActions response.now }
+{
+    let actions = response.actions();
+    each_action(actions.as_slice())
+}

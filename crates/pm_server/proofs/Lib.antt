@@ -1,0 +1,2 @@
+pub mod KeyBits
+pub mod Polling

@@ -1,0 +1,12 @@
+-- What the rights are asked about is live.
+use Rattle.pm_laws.proofs.Live.{classes-live}
+use Rattle.pm_state.proofs.Granting.{table-live}
+use Rattle.pm_state.proofs.judging.UserJudge.rights.Goals as goal
+
+pub rights-requires-clause-asked : goal.rights-requires-clause-asked
+rights-requires-clause-asked c = rw (c.reach-reach.ensures.elements, c.reach-reach.ensures.assigned) (record {
+  user = c.requires.user;
+  element = c.requires.element;
+  classes = rw (c.classes-classes.ensures) (classes-live c.args.self.now.graph.now c.formed.ensures);
+  grants = table-live c.args.self.now.graph.now _ c.args.self.now.assoc.now.grantees c.formed.ensures c.kept.ensures c.args.self.now.own;
+})
