@@ -1,6 +1,7 @@
 //! The server: one house, a worker for each of its seats, and the acceptor.
 
 ghost use Rattle.std.specs.Prelude.{◌≡◌, ◌<◌, ◌≤◌, None};
+ghost use Rattle.ngac.specs.Endings.{status_after, IsServerEnd, IsJournalEnd};
 
 use crate::operator::Operator;
 use crossbeam_utils::rule::Protocol;
@@ -103,7 +104,7 @@ fn tell<O: Sink>(alloc: Global, out: &mut O, port: u16) -> Result<(), Memory> {
 }
 
 // Tells where it listens once each worker has begun, and leaves connections at their doors. It comes back where the server
-// can't go on.
+// can't go on, or has no memory to tell.
 fn attend<O: Sink, N: Notices, R: Wait + Clock + Alloc<A = Global>>(
     rt: &R,
     out: &mut O,
@@ -112,13 +113,16 @@ fn attend<O: Sink, N: Notices, R: Wait + Clock + Alloc<A = Global>>(
     entrance: &mut Entrance,
     doors: &mut [Door],
     port: u16,
-) {
-    if entrance.await_workers(rt, watch, doors.len() as u64)
-        && tell(rt.alloc(), out, port).is_ok()
-    {
-        entrance.accept_all(rt, watch, doors, notices);
+) -> Result<(), Memory> {
+    let mut told = Ok(());
+    if entrance.await_workers(rt, watch, doors.len() as u64) {
+        told = tell(rt.alloc(), out, port);
+        if told.is_ok() {
+            entrance.accept_all(rt, watch, doors, notices);
+        }
     }
     dismiss(watch, doors);
+    told
 }
 
 // Serves what comes by this house, until it can't go on; or tells why it can't begin.
@@ -153,11 +157,12 @@ pub(crate) fn run_house<
         &mut doors,
         workers,
     )?;
-    thread::join(
+    let ((), told) = thread::join(
         rt,
         || staff.work(rt, house),
         || attend(rt, out, notices, &watch, &mut entrance, &mut doors, port),
     );
+    told?;
     Ok(())
 }
 
@@ -195,7 +200,11 @@ pub(crate) fn ended<E: Sink>(
     operator: &mut Operator<'_, E>,
     port: u16,
     served: Result<(), OpenError>,
-) -> Status {
+) -> Status
+    ensures exact { result ≡ status_after served }
+    ensures server { IsServerEnd result }
+    ensures journal { IsJournalEnd result }
+{
     match served {
         Ok(()) => Status::ServeFault,
         Err(OpenError::Memory) => Status::Memory,
@@ -217,6 +226,7 @@ pub(crate) fn serve<O: Sink, E: Sink, R: Threads + Wait + Net + Clock + Alloc<A 
     workers: u16,
 ) -> Status
     requires { (0 < workers) × (workers ≤ 32) }
+    ensures { IsServerEnd result }
 {
     let workers = u32::from(workers);
     let (opened, blank) = house_room(workers);

@@ -19,9 +19,9 @@ mod words;
 pub use laws::decision_said;
 use pm_model::{Bars, ClassList, ElementId, Grant, Grantee, Grants, Reach};
 pub use prohibitions::{applies, first_applying, in_range};
-pub use rights::rights_of;
+pub use rights::{common, rights_denied, rights_of, without};
 pub use verdict::Verdict;
-use words::{holders_above, lowest, without_bit};
+pub use words::{holders_above, lowest, without_bit};
 
 /// Whether the grant gives the right on the element in the class.
 fn gives<R: Reach>(

@@ -20,7 +20,7 @@ const NO_RIGHTS: Rights = Rights(0);
 const ALL_RIGHTS: Rights = Rights(RightWord::MAX);
 
 /// The rights that are in both sets.
-fn common(a: Rights, b: Rights) -> Rights
+pub fn common(a: Rights, b: Rights) -> Rights
     ensures { result ≡ bit_and a b }
 {
     Rights(a.0 & b.0)
@@ -28,7 +28,7 @@ fn common(a: Rights, b: Rights) -> Rights
 
 /// The rights of the first set that the second doesn't have.
 #[tactic(auto, using(crate::proofs::RightSets::set_without))]
-fn without(held: Rights, denied: Rights) -> Rights
+pub fn without(held: Rights, denied: Rights) -> Rights
     ensures small { result < 2 ^ right_bits }
     ensures answer { IsSetOf (λ r. has_right held r && not (has_right denied r)) result }
 {
@@ -210,7 +210,7 @@ fn rights_denied_by<R: Reach>(
 }
 
 /// The rights on the element that the prohibitions deny the user in any process.
-fn rights_denied<R: Reach, B: Bars>(
+pub fn rights_denied<R: Reach, B: Bars>(
     reach: &mut R,
     bars: &B,
     user: ElementId,

@@ -9,12 +9,7 @@ ghost use Rattle.pm_decide.specs.Hits.{AreHits};
 use pm_model::{ElementId, Grants, Reach};
 
 /// The user attributes of word k that have associations and that the user is in.
-pub(crate) fn holders_above<R: Reach, G: Grants>(
-    reach: &mut R,
-    grants: &G,
-    user: ElementId,
-    k: u32,
-) -> u64
+pub fn holders_above<R: Reach, G: Grants>(reach: &mut R, grants: &G, user: ElementId, k: u32) -> u64
     requires user { IsLive (R.relation reach.old) user }
     ensures hits { AreHits (R.relation reach.old).below user (G.grantees grants.now) k result }
     ensures same { R.relation reach.new ≡ R.relation reach.old }
@@ -28,7 +23,7 @@ pub(crate) fn holders_above<R: Reach, G: Grants>(
 
 /// The place of the lowest bit that is set.
 #[tactic(auto, using(crate::proofs::Bits::lowest_bit))]
-pub(crate) fn lowest(word: u64) -> u32
+pub fn lowest(word: u64) -> u32
     requires { 0 < word }
     ensures within { result < 64 }
     ensures set { (bit_at word result == 1) ≡ true }
@@ -37,7 +32,7 @@ pub(crate) fn lowest(word: u64) -> u32
 }
 
 /// The word without one of its bits.
-pub(crate) fn without_bit(word: u64, i: u32) -> u64
+pub fn without_bit(word: u64, i: u32) -> u64
     requires within { i < 64 }
     requires set { (bit_at word i == 1) ≡ true }
     ensures rest { (j : ℕ) → j < 64 → (bit_at result j == 1) ≡ (bit_at word j == 1 && not (j == i)) }

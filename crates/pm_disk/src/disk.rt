@@ -1,6 +1,6 @@
 //! A disk: what a read gives, and what a crash may leave.
 
-ghost use Rattle.std.specs.Prelude.{◌≡◌, ◌≤◌, ◌<◌, Bool, true, ℕ, List, length, take, IfOk, OnOk, OnErr};
+ghost use Rattle.std.specs.Prelude.{◌≡◌, ◌≤◌, ◌<◌, ◌+◌, Bool, true, ℕ, List, length, take, IfOk, OnOk, OnErr};
 ghost use Rattle.pm_model.specs.Causes.{HasCause};
 ghost use Rattle.pm_disk.specs.Disks.{Reads, Holds, Torn, Cut, Follows, Each, Elapses};
 
@@ -56,9 +56,11 @@ pub trait Disk {
         ensures time { tells ≡ true → Elapses (moment self.old) (moment self.new) (left_since self.old) (left_since self.new) (may_leave self.new) }
         ensures cause { HasCause (faults self.old) (faults self.new) result };
 
-    /// After it a crash leaves the content.
+    /// After it a crash leaves the content. A sync that is done takes one moment, and one that failed takes none.
     fn sync(&mut self) -> Result<(), Failed>
         ensures durable { tells ≡ true → OnOk result (Each (may_leave self.new) (λ c. c ≡ content self.old)) }
+        ensures done { tells ≡ true → OnOk result (moment self.new ≡ moment self.old + 1) }
+        ensures not_done { tells ≡ true → OnErr result (moment self.new ≡ moment self.old) }
         ensures content { tells ≡ true → content self.new ≡ content self.old }
         ensures crash { tells ≡ true → Each (may_leave self.new) (may_leave self.old) }
         ensures time { tells ≡ true → Elapses (moment self.old) (moment self.new) (left_since self.old) (left_since self.new) (may_leave self.new) }

@@ -70,7 +70,7 @@ impl Disk for FileDisk {
     }
 
     fn sync(&mut self) -> Result<(), Failed> {
-        match self.file.sync_all() {
+        match self.file.sync_data() {
             Ok(()) => Ok(()),
             Err(_) => Err(failed(&mut self.faults)),
         }

@@ -1,6 +1,6 @@
 //! A file in memory, of which a crash leaves what it may leave of a file on a disk.
 
-ghost use Rattle.std.specs.Prelude.{◌≡◌, ◌≤◌, ◌⊎◌, ◌+◌, ◌-◌, length, take, drop, min, IfOk, OnOk, OnErr};
+ghost use Rattle.std.specs.Prelude.{◌≡◌, ◌≤◌, ◌⊎◌, ◌+◌, ◌-◌, ◌++◌, ◌∷◌, [], length, take, drop, min, IfOk, OnOk, OnErr};
 ghost use Rattle.std.proofs.Common.{inl, refl};
 ghost use Rattle.pm_model.specs.Causes.{HasCause, raised};
 ghost use Rattle.pm_disk.specs.Steps.{FailsTo, MayLeave, MovesTo};
@@ -89,8 +89,8 @@ impl MemDisk {
     // Goes on to this moment.
     fn go_to(&mut self, next: Held) -> Result<(), Failed>
         ensures moment { MovesTo next self.old.held self.old.past.items self.new.held self.new.past.items }
-        ensures ok { OnOk result (self.new.held ≡ next) }
-        ensures err { OnErr result (self.new.held ≡ self.old.held) }
+        ensures ok { OnOk result ((self.new.held ≡ next) × (self.new.past.items ≡ self.old.past.items ++ self.old.held ∷ [])) }
+        ensures err { OnErr result ((self.new.held ≡ self.old.held) × (self.new.past.items ≡ self.old.past.items)) }
         ensures cause { HasCause self.old.faults self.new.faults result }
     {
         match go_on(&mut self.held, &mut self.past, next) {

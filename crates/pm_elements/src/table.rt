@@ -329,8 +329,8 @@ impl Elements {
         PathReach::new(self.slots.allocator(), self, self.slots.len())
     }
 
-    /// How many assignments there are.
-    pub(crate) fn assignments(&self) -> usize
+    /// How many assignments there are: at most 131,072.
+    pub fn assignments(&self) -> usize
         ensures { result ≡ length self.now.assigned }
     {
         self.links

@@ -1,12 +1,14 @@
 -- What is given on an element, from the elements that contain it, word by word.
-use Rattle.std.proofs.Common.{◌≡◌, ◌≢◌, ℕ, zero, suc, ◌+◌, ◌*◌, ◌/◌, ◌%◌, ◌<◌, ◌≤◌, ◌==◌, ◌||◌, ◌&&◌, not, nat_lt, Bool, true, false, List, [], ◌∷◌, length, get_or, drop, slice_get, bit_and, All, subst, Option, None, Some, refl, sym, ap, ◌∙◌, arith, inl, inr}
+use Rattle.std.proofs.Common.{◌≡◌, ◌≢◌, ℕ, zero, suc, ◌+◌, ◌*◌, ◌/◌, ◌%◌, ◌<◌, ◌≤◌, ◌==◌, ◌||◌, ◌&&◌, not, Bool, true, false, List, [], ◌∷◌, ◌++◌, if◌then◌else◌, length, get_or, drop, slice_get, bit_and, All, subst, Option, None, Some, refl, sym, ap, ◌∙◌, arith, inl, inr}
 use Rattle.std.specs.Int.{bit_at}
 use Rattle.std.specs.List.{list_any, list_all}
-use Rattle.std.proofs.lemmas.Bool.{cases_eq, cases_lt, eq-eqb, ne_eqb, lt-ltb, le-ltb, true≢false}
-use Rattle.std.proofs.lemmas.List.{get_or_past}
-use Rattle.std.proofs.lemmas.List.Elements.{All-get_or}
+use Rattle.std.proofs.lemmas.Bool.{cases_eq, cases_lt, eq-eqb, eqb-true, ne_eqb, true≢false}
+use Rattle.std.proofs.lemmas.List.{get_or_past, drop_all, append-nil}
+use Rattle.std.proofs.lemmas.List.Elements.{All-get_or, All-nil, All-cons, All-append}
+use Rattle.std.proofs.lemmas.List.Folds.{list_any-append}
 use Rattle.std.proofs.lemmas.Option.{slice_get_within, get_or_from_slice_get}
 use Rattle.std.proofs.lemmas.Nat.Bits.{bit_at-zero}
+use Rattle.pm_model.proofs.Walks.{drop-item}
 use Rattle.pm_model.specs.Decision.{classes_of}
 use Rattle.pm_model.specs.Formed.{Each}
 use Rattle.pm_model.specs.RightSet.{has_right}
@@ -18,7 +20,7 @@ use Rattle.pm_decide.proofs.RightSets.{IsMeeting, meeting-more}
 use Rattle.pm_decide.proofs.Walks.{all-drop}
 use Rattle.pm_given.specs.Given.{is_at}
 use Rattle.pm_given.specs.Joins.{gives_in}
-use Rattle.pm_given.specs.Told.{AreTold, is_marked}
+use Rattle.pm_given.specs.Told.{AreNoted, AreTold, is_marked, is_placed}
 
 -- ---- tests of lists
 
@@ -45,6 +47,10 @@ module _ {X : Type 0} where
   any-split : (p q s : X → Bool) (xs : List X) → Each (λ x. p x ≡ (q x || s x)) xs → list_any p xs ≡ (list_any q xs || list_any s xs)
   any-split p q s [] h = refl
   any-split p q s (x ∷ xs) h = rw (h.0, any-split p q s xs h.1) (four (q x) (s x) (list_any q xs) (list_any s xs))
+
+  any-each : (p q : X → Bool) (xs : List X) → Each (λ x. p x ≡ q x) xs → list_any p xs ≡ list_any q xs
+  any-each p q [] h = refl
+  any-each p q (x ∷ xs) h = rw (h.0, any-each p q xs h.1) refl
 
   each-map : (P Q : X → Type 0) → ((x : X) → P x → Q x) → (xs : List X) → Each P xs → Each Q xs
   each-map P Q f [] h = tt
@@ -81,6 +87,52 @@ within marks p h = elim (cases_lt (p / 64) (length marks)) [
       let out : is_marked marks p ≡ false = rw (get_or_past marks (p / 64) 0 l, bit_at-zero (p % 64)) refl in
       absurd (true≢false (sym h ∙ out))
 ]
+
+-- ---- the places of the words that aren't empty
+
+-- those of the first k words
+pub record AreNotedTo (k : ℕ) (ks marks : List ℕ) : Type 0 where
+  pub within : All (λ j. j < length marks) ks
+  pub full : (p : ℕ) → p / 64 < k → is_marked marks p ≡ true → is_placed ks p ≡ true
+
+pub noted-begun : (marks : List ℕ) → AreNotedTo 0 [] marks
+noted-begun marks = record { within = All-nil (λ j. j < length marks); full = λ p below. absurd (omega (arith, below)) }
+
+pub noted-more : (k : ℕ) (ks marks : List ℕ) → AreNotedTo k ks marks → k < length marks →
+    AreNotedTo (k + 1) (ks ++ (if get_or marks k 0 == 0 then [] else k ∷ [])) marks
+noted-more k ks marks h here = of (get_or marks k 0 == 0) refl where
+  last : (b : Bool) → (b || (true || false)) ≡ true
+  last true = refl
+  last false = refl
+
+  none : (p : ℕ) → p / 64 ≡ k → get_or marks k 0 ≡ 0 → is_marked marks p ≡ false
+  none p page empty = rw (page, empty, bit_at-zero (p % 64)) refl
+
+  of : (b : Bool) → (get_or marks k 0 == 0) ≡ b → AreNotedTo (k + 1) (ks ++ (if get_or marks k 0 == 0 then [] else k ∷ [])) marks
+  of true empty = rw (empty, append-nil) (record {
+    within = h.within;
+    full = λ p below marked. elim (cases_lt (p / 64) k) [
+      | inl l ↦ h.full p l marked
+      | inr l ↦ absurd (true≢false (sym marked ∙ none p (omega (arith, below, l)) (eqb-true (get_or marks k 0) 0 empty)))
+    ];
+  })
+  of false some = rw some (record {
+    within = All-append (λ j. j < length marks) ks (k ∷ []) h.within (All-cons (λ j. j < length marks) k [] here (All-nil (λ j. j < length marks)));
+    full = λ p below marked. rw (list_any-append (λ j. p / 64 == j) ks (k ∷ [])) (elim (cases_lt (p / 64) k) [
+      | inl l ↦ rw (h.full p l marked) refl
+      | inr l ↦ rw (eq-eqb (p / 64) k (omega (arith, below, l))) (last (is_placed ks p))
+    ]);
+  })
+
+pub noted-done : (k : ℕ) (ks marks : List ℕ) → AreNotedTo k ks marks → length marks ≤ k → AreNoted ks marks
+noted-done k ks marks h past = record { within = h.within; full = λ p marked. h.full p (omega (arith, past, within marks p marked)) marked }
+
+-- among words that are all empty there is none
+pub empty-noted : (marks : List ℕ) → ((k : ℕ) → get_or marks k 0 ≡ 0) → AreNoted [] marks
+empty-noted marks none = record {
+  within = All-nil (λ j. j < length marks);
+  full = λ p marked. let out : is_marked marks p ≡ false = rw (none (p / 64), bit_at-zero (p % 64)) refl in absurd (true≢false (sym marked ∙ out));
+}
 
 -- ---- the element of the lowest bit, and those of the others
 
@@ -159,49 +211,57 @@ hit-none below k word r e c L none =
 
 -- ---- word by word
 
--- the grant gives the right on e in the class, and is on an element of word k or a later one
-abbrev pub gives_from : (ℕ → ℕ → Bool) → ℕ → ℕ → ℕ → ℕ → Grant → Bool
-gives_from below k r e c h = not (nat_lt h.at (64 * k)) && gives below r e c h
+-- the grant gives the right on e in the class, and is on an element of a word at one of these places
+abbrev pub gives_among : (ℕ → ℕ → Bool) → List ℕ → ℕ → ℕ → ℕ → Grant → Bool
+gives_among below ks r e c h = is_placed ks h.at && gives below r e c h
 
-module _ (below : ℕ → ℕ → Bool) (r e c : ℕ) (L : List Grant) where
-  pub from-begun : list_any (gives_from below 0 r e c) L ≡ list_any (gives below r e c) L
-  from-begun = any-same (gives_from below 0 r e c) (gives below r e c) (λ h. rw (le-ltb h.at (64 * 0) (omega arith)) refl) L
+hit : (a b d p : Bool) → ((true || p) && (a && b && d)) ≡ (((true && (true && b)) && (a && b && d)) || (p && (a && b && d)))
+hit true true true p = refl
+hit true true false true = refl
+hit true true false false = refl
+hit true false d true = refl
+hit true false d false = refl
+hit false true d true = refl
+hit false true d false = refl
+hit false false d true = refl
+hit false false d false = refl
 
-  hit : (a b d : Bool) → (true && (a && b && d)) ≡ (((true && (true && b)) && (a && b && d)) || (false && (a && b && d)))
-  hit true true true = refl
-  hit true true false = refl
-  hit true false d = refl
-  hit false true d = refl
-  hit false false d = refl
+module _ (below : ℕ → ℕ → Bool) (r e c : ℕ) (L : List Grant) (own marks : List ℕ) (told : AreTold L own marks) where
+  marked : Each (λ (h : Grant). is_marked marks h.at ≡ true) L
+  marked = each-map (λ (h : Grant). list_any (is_at None h.at) L ≡ true) (λ (h : Grant). is_marked marks h.at ≡ true)
+      (λ h there. told None h.at ∙ there) L (places L)
 
-  module _ (own marks : List ℕ) (told : AreTold L own marks) (k word : ℕ)
-      (bits : (i : ℕ) → i < 64 → (bit_at word i == 1) ≡ (is_marked marks (64 * k + i) && below e (64 * k + i))) where
+  pub among-begun : (ks : List ℕ) → ((p : ℕ) → is_marked marks p ≡ true → is_placed ks p ≡ true) →
+      list_any (gives_among below ks r e c) L ≡ list_any (gives below r e c) L
+  among-begun ks full = any-each (gives_among below ks r e c) (gives below r e c) L
+      (each-map (λ (h : Grant). is_marked marks h.at ≡ true) (λ h. gives_among below ks r e c h ≡ gives below r e c h)
+      (λ h here. rw (full h.at here) refl) L marked)
+
+  module _ (rest : List ℕ) (k word : ℕ) (bits : (i : ℕ) → i < 64 → (bit_at word i == 1) ≡ (is_marked marks (64 * k + i) && below e (64 * k + i))) where
     at_word : (h : Grant) → is_marked marks h.at ≡ true →
-        gives_from below k r e c h ≡ (gives_in below k word r e c h || gives_from below (k + 1) r e c h)
-    at_word h marked = elim (cases_lt h.at (64 * k)) [
-      | inl l ↦ rw (lt-ltb h.at (64 * k) l, lt-ltb h.at (64 * (k + 1)) (omega arith), ne_eqb (h.at / 64) k (omega arith)) refl
-      | inr l ↦ elim (cases_lt h.at (64 * (k + 1))) [
-        | inl m ↦
-            let same : 64 * k + h.at % 64 ≡ h.at = omega arith in
-            rw (le-ltb h.at (64 * k) l, lt-ltb h.at (64 * (k + 1)) m, eq-eqb (h.at / 64) k (omega arith), bits (h.at % 64) (omega arith), same, marked)
-            (hit (has_right h.rights r) (below e h.at) (below h.at c))
-        | inr m ↦ rw (le-ltb h.at (64 * k) l, le-ltb h.at (64 * (k + 1)) m, ne_eqb (h.at / 64) k (omega arith)) refl
-      ]
+        gives_among below (k ∷ rest) r e c h ≡ (gives_in below k word r e c h || gives_among below rest r e c h)
+    at_word h here = elim (cases_eq (h.at / 64) k) [
+      | inl is ↦
+          let same : 64 * k + h.at % 64 ≡ h.at = omega (arith, is) in
+          rw (eq-eqb (h.at / 64) k is, bits (h.at % 64) (omega arith), same, here)
+          (hit (has_right h.rights r) (below e h.at) (below h.at c) (is_placed rest h.at))
+      | inr apart ↦ rw (ne_eqb (h.at / 64) k apart) refl
     ]
 
-    pub from-step : list_any (gives_from below k r e c) L ≡ (list_any (gives_in below k word r e c) L || list_any (gives_from below (k + 1) r e c) L)
-    from-step = any-split (gives_from below k r e c) (gives_in below k word r e c) (gives_from below (k + 1) r e c) L
-        (each-map (λ (h : Grant). list_any (is_at None h.at) L ≡ true)
-        (λ h. gives_from below k r e c h ≡ (gives_in below k word r e c h || gives_from below (k + 1) r e c h))
-        (λ h there. at_word h (told None h.at ∙ there)) L (places L))
+    among-next : list_any (gives_among below (k ∷ rest) r e c) L ≡ (list_any (gives_in below k word r e c) L || list_any (gives_among below rest r e c) L)
+    among-next = any-split (gives_among below (k ∷ rest) r e c) (gives_in below k word r e c) (gives_among below rest r e c) L
+        (each-map (λ (h : Grant). is_marked marks h.at ≡ true)
+        (λ h. gives_among below (k ∷ rest) r e c h ≡ (gives_in below k word r e c h || gives_among below rest r e c h)) at_word L marked)
 
-  -- behind the last word nothing is given
-  pub from-done : (own marks : List ℕ) → AreTold L own marks → (k : ℕ) → length marks ≤ k → false ≡ list_any (gives_from below k r e c) L
-  from-done own marks told k past =
-      sym (any-split (gives_from below k r e c) (λ h. false) (λ h. false) L
-      (each-map (λ (h : Grant). list_any (is_at None h.at) L ≡ true) (λ h. gives_from below k r e c h ≡ (false || false))
-      (λ h there. rw (lt-ltb h.at (64 * k) (omega (arith, past, within marks h.at (told None h.at ∙ there)))) refl) L (places L))
-      ∙ rw (any-none L) refl)
+  pub among-step : (ks : List ℕ) (i k word : ℕ) → slice_get ks i ≡ Some k →
+      ((i : ℕ) → i < 64 → (bit_at word i == 1) ≡ (is_marked marks (64 * k + i) && below e (64 * k + i))) →
+      list_any (gives_among below (drop i ks) r e c) L ≡ (list_any (gives_in below k word r e c) L || list_any (gives_among below (drop (i + 1) ks) r e c) L)
+  among-step ks i k word at bits = rw (drop-item ks i k at) (among-next (drop (i + 1) ks) k word bits)
+
+-- behind the last place nothing is given
+pub among-done : (below : ℕ → ℕ → Bool) (r e c : ℕ) (L : List Grant) (ks : List ℕ) (i : ℕ) → length ks ≤ i →
+    false ≡ list_any (gives_among below (drop i ks) r e c) L
+among-done below r e c L ks i past = rw (drop_all i ks past) (sym (any-none L))
 
 -- ---- class by class
 
@@ -218,16 +278,10 @@ alone : (b : Bool) → b ≡ (b && true)
 alone true = refl
 alone false = refl
 
-drop-past : {X : Type 0} (xs : List X) (i : ℕ) → length xs ≤ i → drop i xs ≡ []
-drop-past [] zero h = refl
-drop-past [] (suc i) h = refl
-drop-past (x ∷ xs) zero h = absurd (omega (arith, h))
-drop-past (x ∷ xs) (suc i) h = drop-past xs i (omega (arith, h))
-
 -- behind the last class
 pub held-done : (below : ℕ → ℕ → Bool) (test : ℕ → ℕ → Bool) (classes : List ℕ) (e i so_far : ℕ) (whole : ℕ → Bool) →
     IsMeeting so_far (λ r. list_all (test r) (classes_of below (drop i classes) e)) whole → length classes ≤ i → IsSetOf whole so_far
-held-done below test classes e i so_far whole meeting past = λ r h. alone (has_right so_far r) ∙ rw (drop-past classes i past) at (meeting r h)
+held-done below test classes e i so_far whole meeting past = λ r h. alone (has_right so_far r) ∙ rw (drop_all i classes past) at (meeting r h)
 
 pub all-at : (P : ℕ → Type 0) (xs : List ℕ) (i x : ℕ) → slice_get xs i ≡ Some x → All P xs → P x
 all-at P xs i x is all = subst P (get_or_from_slice_get xs i x x is) (All-get_or P xs i x (slice_get_within xs i x is) all)

@@ -3,7 +3,6 @@ use Rattle.std.proofs.Common.{◌≡◌, ℕ, ◌*◌, ◌/◌, ◌%◌, ◌<◌
 use Rattle.std.specs.List.{list_any, list_all}
 use Rattle.std.proofs.lemmas.Bool.{cases_lt, eqb-true, true≢false}
 use Rattle.std.proofs.lemmas.Nat.Bits.{bit_at-zero}
-use Rattle.std.proofs.lemmas.List.{get_or_past, get_or-take, length-take-le}
 use Rattle.std.proofs.lemmas.List.Elements.{All-head, All-tail, All-weaker}
 use Rattle.std.proofs.lemmas.List.Folds.{list_any-append}
 use Rattle.pm_model.specs.Decision.{is_met, associations_of, classes_of, privilege}
@@ -92,16 +91,6 @@ nothing-at r p (x ∷ L) h = of (x.at == p) refl (nothing-at r p L) where
 -- where no mark is, nothing is told, as nothing is given
 pub told-marked : (L : List Grant) (own marks : List ℕ) → AreTold L own marks → AreMarked own marks
 told-marked L own marks told r p none = told (Some r) p ∙ nothing-at r p L (sym (told None p) ∙ none)
-
--- the words behind the last that is used may be left out
-pub told-used : (L : List Grant) (own marks : List ℕ) (n : ℕ) → n ≤ length marks → AreEmptyFrom n marks → AreTold L own marks → AreTold L own (take n marks)
-told-used L own marks n within rest told (Some r) p = told (Some r) p
-told-used L own marks n within rest told None p = rw (same (p / 64)) (told None p) where
-  same : (k : ℕ) → get_or (take n marks) k 0 ≡ get_or marks k 0
-  same k = elim (cases_lt k n) [
-    | inl l ↦ get_or-take n marks k 0 l
-    | inr l ↦ get_or_past (take n marks) k 0 (omega (arith, l, length-take-le n marks)) ∙ sym (rest k l)
-  ]
 
 -- with the used words empty, nothing is told
 pub nothing-told : (own marks own_new marks_new : List ℕ) (n : ℕ) → AreEmptyFrom n marks → AreMarked own marks →

@@ -42,7 +42,7 @@ own-put own n rights r p fits = elim (cases_eq n p) [
       (and_false (has_right (get_or own p 0) r) (has_right rights r))
 ]
 
-mark-put : (marks : List ℕ) (n p : ℕ) → n / 64 < length marks →
+pub mark-put : (marks : List ℕ) (n p : ℕ) → n / 64 < length marks →
     is_marked (set marks (n / 64) (bit_or (get_or marks (n / 64) 0) (1 * 2 ^ (n % 64) % 2 ^ 64))) p ≡ (is_marked marks p || n == p)
 mark-put marks n p fits = elim (cases_eq (p / 64) (n / 64)) [
   | inl d ↦ elim (cases_eq (p % 64) (n % 64)) [

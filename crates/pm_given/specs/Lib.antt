@@ -1,3 +1,5 @@
 pub mod Given
 pub mod Told
+pub mod Held
 pub mod Joins
+pub mod Parents

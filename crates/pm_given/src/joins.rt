@@ -1,6 +1,6 @@
 //! The rights on an element, joined from those at the elements that contain it.
 
-ghost use Rattle.std.specs.Prelude.{◌≡◌, ◌<◌, ◌*◌, ◌≤◌, ◌+◌, ◌==◌, ◌&&◌, ◌||◌, ℕ, true, not, List, length, slice_index, bit_and};
+ghost use Rattle.std.specs.Prelude.{◌≡◌, ◌<◌, ◌*◌, ◌≤◌, ◌+◌, ◌==◌, ◌&&◌, ◌||◌, ℕ, true, not, List, length, slice_index};
 ghost use Rattle.std.specs.Int.{bit_at};
 ghost use Rattle.std.specs.List.{list_any, list_all};
 ghost use Rattle.pm_model.specs.Decision.{classes_of};
@@ -9,22 +9,15 @@ ghost use Rattle.pm_model.specs.declared.rights.Grant.{Grant};
 ghost use Rattle.pm_decide.specs.Gives.{gives};
 ghost use Rattle.pm_decide.specs.Live.{IsLive, AllLive};
 ghost use Rattle.pm_decide.specs.Sets.{IsSetOf};
-ghost use Rattle.pm_given.specs.Told.{AreTold, is_marked};
+ghost use Rattle.pm_given.specs.Told.{AreNoted, AreTold, is_marked};
 ghost use Rattle.pm_given.specs.Joins.{AreIn, gives_in};
 
-use crate::words::{lowest, without_bit};
+use pm_decide::{common, lowest, without_bit};
 use pm_model::{ClassList, ElementId, Reach, RightWord, Rights};
 
 pub(crate) const NO_RIGHTS: Rights = Rights(0);
 
 const ALL_RIGHTS: Rights = Rights(RightWord::MAX);
-
-/// The rights that are in both sets.
-fn common(a: Rights, b: Rights) -> Rights
-    ensures { result ≡ bit_and a b }
-{
-    Rights(a.0 & b.0)
-}
 
 /// The rights at the element itself, if it is in the class.
 fn rights_at<R: Reach>(own: &[u64], reach: &mut R, p: ElementId, class: ElementId) -> Rights
@@ -67,30 +60,28 @@ fn rights_of_word<R: Reach>(
 }
 
 /// Those that contain the element, of word k of the marks.
-fn marked_above<R: Reach>(marks: &[u64], reach: &mut R, k: usize, element: ElementId) -> u64
+fn marked_above<R: Reach>(marks: &[u64], reach: &mut R, k: u32, element: ElementId) -> u64
     requires within { k < length marks.now }
     requires few { length marks.now ≤ 67108864 }
     requires element { IsLive (R.relation reach.old) element }
     ensures word { (i : ℕ) → i < 64 → (bit_at result i == 1) ≡ (is_marked marks.now (64 * k + i) && (R.relation reach.old).below element (64 * k + i)) }
     ensures same { R.relation reach.new ≡ R.relation reach.old }
 {
-    let word = marks[k];
-    if word == 0 {
-        return 0;
-    }
-    word & reach.above(element, k as u32)
+    marks[k as usize] & reach.above(element, k)
 }
 
 /// The rights that are given on the element in the class.
 fn rights_met<R: Reach>(
     own: &[u64],
     marks: &[u64],
+    places: &[u32],
     reach: &mut R,
     element: ElementId,
     class: ElementId,
 ) -> Rights
     requires long { 64 * length marks.now ≤ length own.now }
     requires few { length marks.now ≤ 67108864 }
+    requires noted { AreNoted places.now marks.now }
     requires element { IsLive (R.relation reach.old) element }
     requires class { IsLive (R.relation reach.old) class }
     requires live { (p : ℕ) → is_marked marks.now p ≡ true → IsLive (R.relation reach.old) p }
@@ -98,9 +89,10 @@ fn rights_met<R: Reach>(
     ensures same { R.relation reach.new ≡ R.relation reach.old }
 {
     let mut rights = NO_RIGHTS;
-    for k in 0..marks.len() {
+    for i in 0..places.len() {
+        let k = places[i];
         let word = marked_above(marks, reach, k, element);
-        let more = rights_of_word(own, reach, k as u32, word, class);
+        let more = rights_of_word(own, reach, k, word, class);
         rights = rights.union(more);
     }
     rights
@@ -110,12 +102,14 @@ fn rights_met<R: Reach>(
 fn rights_left<R: Reach>(
     own: &[u64],
     marks: &[u64],
+    places: &[u32],
     reach: &mut R,
     element: ElementId,
     class: ElementId,
 ) -> Rights
     requires long { 64 * length marks.now ≤ length own.now }
     requires few { length marks.now ≤ 67108864 }
+    requires noted { AreNoted places.now marks.now }
     requires element { IsLive (R.relation reach.old) element }
     requires class { IsLive (R.relation reach.old) class }
     requires live { (p : ℕ) → is_marked marks.now p ≡ true → IsLive (R.relation reach.old) p }
@@ -125,19 +119,21 @@ fn rights_left<R: Reach>(
     if !reach.contains(element, class) {
         return ALL_RIGHTS;
     }
-    rights_met(own, marks, reach, element, class)
+    rights_met(own, marks, places, reach, element, class)
 }
 
 /// The rights that are given on the element in each class that contains it.
 pub(crate) fn rights_held<R: Reach>(
     own: &[u64],
     marks: &[u64],
+    places: &[u32],
     reach: &mut R,
     classes: &ClassList,
     element: ElementId,
 ) -> Rights
     requires long { 64 * length marks.now ≤ length own.now }
     requires few { length marks.now ≤ 67108864 }
+    requires noted { AreNoted places.now marks.now }
     requires element { IsLive (R.relation reach.old) element }
     requires classes { AllLive (R.relation reach.old) classes.now }
     requires live { (p : ℕ) → is_marked marks.now p ≡ true → IsLive (R.relation reach.old) p }
@@ -147,7 +143,7 @@ pub(crate) fn rights_held<R: Reach>(
     let mut rights = ALL_RIGHTS;
     for i in 0..classes.len() {
         let class = *classes.at(i);
-        let left = rights_left(own, marks, reach, element, class);
+        let left = rights_left(own, marks, places, reach, element, class);
         rights = common(rights, left);
         if rights.is_empty() {
             return NO_RIGHTS;

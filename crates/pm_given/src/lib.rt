@@ -3,8 +3,12 @@
 #![tactic(auto)]
 
 mod given;
+mod held_on;
 mod joins;
+mod marks;
+mod only;
 mod puts;
-mod words;
+mod runs;
 
 pub use given::Given;
+pub use held_on::HeldOn;

@@ -9,7 +9,7 @@ ghost use Rattle.pm_decide.specs.Live.{IsLive};
 ghost use Rattle.pm_given.specs.Given.{given, is_at, some_at};
 ghost use Rattle.pm_given.specs.Told.{AreWithin, AllWithin, tells};
 
-use crate::words::{holders_above, lowest, without_bit};
+use pm_decide::{holders_above, lowest, without_bit};
 use pm_model::{ElementId, Grant, Grants, Reach};
 
 /// Puts the rights of a grant to those at the element that it is on.

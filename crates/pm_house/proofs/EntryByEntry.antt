@@ -1,14 +1,17 @@
 -- A house on its way to the end of a history: one entry more.
 use Rattle.std.proofs.Common.{inl, inr, ◌≡◌, ◌≢◌, ◌<◌, ◌≤◌, ◌+◌, ℕ, zero, suc, Bool, true, false, List, [], ◌∷◌, ◌++◌, length, get_or, take, MatchBool, MatchOption, Some, drop, refl, sym, ◌∙◌, ap, subst, arith, length-append}
-use Rattle.std.specs.Prelude.{Option, IfSome, slice_get, slice_index, replicate}
+use Rattle.std.specs.Prelude.{Option, IfSome, IsSome, slice_get, slice_index, replicate}
 use Rattle.std.proofs.lemmas.Bool.{cases_eq}
 use Rattle.std.proofs.lemmas.List.{get_or-replicate, length-replicate, append-nil, append_assoc, take_more}
 use Rattle.pm_model.specs.State.{State, Graph}
-use Rattle.pm_model.specs.History.{Machine, IsReplayed, opening_machine, replay}
+use Rattle.pm_model.specs.Answer.{Answer, answer}
+use Rattle.pm_model.specs.History.{Machine, IsReplayed, opening_machine, replay, state_of}
 use Rattle.pm_model.specs.declared.requests.Entry.{Entry}
+use Rattle.pm_model.specs.declared.requests.Request.{Request}
+use Rattle.pm_model.specs.declared.replies.Reply.{Reply}
 use Rattle.pm_world.specs.Restored.{IsNext, AreNext, IsMade}
 use Rattle.pm_world.specs.Seats.{count_by_seat}
-use Rattle.pm_house.specs.Lanes.{Laned, lane}
+use Rattle.pm_house.specs.Lanes.{Laned, lane, entry_by}
 use Rattle.pm_house.specs.Restored.{AreLanes, IsFooting, machine_of}
 use Rattle.pm_house.specs.Desks.{IsDesk}
 use Rattle.pm_house.proofs.Counting.{count-own, count-other, counts_fit}
@@ -41,6 +44,7 @@ lanes_more xs ys l i is size new lanes = each_more (λ s. lane s 0) xs ys l i is
 
 pub footing_none : (total seats : ℕ) (lanes : List Laned) (counts : List ℕ) → total ≡ 0 → length lanes ≡ seats → AreLanes seats [] lanes → counts ≡ replicate seats 0 → IsFooting [] total lanes counts seats
 footing_none total seats lanes counts none size laned zeros = record {
+  made = tt;
   sums = none;
   lane_each = size;
   laned = laned;
@@ -50,18 +54,25 @@ footing_none total seats lanes counts none size laned zeros = record {
 
 -- ---- one entry more
 
+pub made_more : (seats : ℕ) (before es : List Entry) (e : Entry) → AreNext seats before es → IsNext seats (before ++ es) e → AreNext seats before (es ++ e ∷ [])
+made_more seats before [] e all next = (subst (λ (l : List Entry). IsNext seats l e) (append-nil before) next, tt)
+made_more seats before (x ∷ es) e all next =
+    (all.0, made_more seats (before ++ x ∷ []) es e all.1 (subst (λ (l : List Entry). IsNext seats l e) (sym (append_assoc before (x ∷ []) es)) next))
+
 pub footing_more : (h g : List Entry) (e : Entry) (total total2 : ℕ) (lanes lanes2 : List Laned) (counts counts2 : List ℕ) (seats : ℕ)
-    → IsFooting h total lanes counts seats → g ≡ h ++ e ∷ [] → e.seat < seats → total2 ≡ total + 1
+    → IsFooting h total lanes counts seats → g ≡ h ++ e ∷ [] → IsNext seats h e → total2 ≡ total + 1
     → length lanes2 ≡ length lanes → IfSome (slice_get lanes e.seat) (λ l. slice_get lanes2 e.seat ≡ Some (lane l.seat (l.share + 1))) → ((s : ℕ) → s ≢ e.seat → slice_get lanes2 s ≡ slice_get lanes s)
     → length counts2 ≡ length counts → slice_index counts2 e.seat ≡ slice_index counts e.seat + 1 → ((s : ℕ) → s ≢ e.seat → slice_index counts2 s ≡ slice_index counts s)
     → IsFooting g total2 lanes2 counts2 seats
-footing_more h g e total total2 lanes lanes2 counts counts2 seats r is within sum lane_size lane_own lane_others count_size count_own count_others =
+footing_more h g e total total2 lanes lanes2 counts counts2 seats r is next sum lane_size lane_own lane_others count_size count_own count_others =
+    let within = next.seat in
     let own_before = r.laned e.seat within in
     let own_now : slice_get lanes2 e.seat ≡ Some (lane e.seat (count_by_seat e.seat h + 1)) =
     subst (λ (o : Option Laned). IfSome o (λ l. slice_get lanes2 e.seat ≡ Some (lane l.seat (l.share + 1)))) own_before lane_own in
     let more : count_by_seat e.seat g ≡ count_by_seat e.seat h + 1 = ap (count_by_seat e.seat) is ∙ count-own e.seat h e refl in
     let same : (s : ℕ) → s ≢ e.seat → count_by_seat s g ≡ count_by_seat s h = λ s not. ap (count_by_seat s) is ∙ count-other s h e not in
     record {
+      made = subst (IsMade seats) (sym is) (made_more seats [] h e r.made next);
       sums = sum ∙ ap (λ n. n + 1) r.sums ∙ sym (ap length is ∙ length-append h (e ∷ []));
       lane_each = lane_size ∙ r.lane_each;
       laned = λ s less. elim (cases_eq s e.seat) [
@@ -86,12 +97,16 @@ count_room counts h g e most counted is short =
     let fits = counts_fit e.seat h most (omega (arith, size, short)) in
     omega (arith, counted, fits)
 
--- ---- the entries so far
+-- the desk's next entry, which the machine accepts
+pub next_at_desk : (seats : ℕ) (M : Machine) (l : Laned) (r : Request) (reply : Reply) (S : State) → IsReplayed M → l.seat < seats
+    → l.share ≡ count_by_seat l.seat M.history → answer (state_of M) r ≡ record { reply = reply; next = Some S } → IsNext seats M.history (entry_by l r)
+next_at_desk seats M l r reply S replayed within share is = record {
+  seat = within;
+  number = ap (λ (n : ℕ). n + 1) share;
+  accepted = subst (λ (T : State). IsSome (answer T r).next) (sym replayed.content) (subst (λ (a : Answer). IsSome a.next) (sym is) refl);
+}
 
-pub made_more : (seats : ℕ) (before es : List Entry) (e : Entry) → AreNext seats before es → IsNext seats (before ++ es) e → AreNext seats before (es ++ e ∷ [])
-made_more seats before [] e all next = (subst (λ (l : List Entry). IsNext seats l e) (append-nil before) next, tt)
-made_more seats before (x ∷ es) e all next =
-    (all.0, made_more seats (before ++ x ∷ []) es e all.1 (subst (λ (l : List Entry). IsNext seats l e) (sym (append_assoc before (x ∷ []) es)) next))
+-- ---- the entries so far
 
 where_true : (P Q : Type 0) (b : Bool) → b ≡ true → MatchBool b P Q → P
 where_true P Q true is p = p
@@ -134,6 +149,7 @@ desk_begins M latest kept total lanes counts seats f hand keeps =
     record {
       at_hand = hand;
       keeps = keeps;
+      made = f.made;
       sums = f.sums;
       sized = f.sized;
       counted = f.counted;

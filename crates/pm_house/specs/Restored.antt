@@ -1,5 +1,6 @@
 -- A house that begins with a history: with none, or with one that was kept. The project's own.
-use Rattle.std.specs.Prelude.{ℕ, ◌≡◌, ◌<◌, List, length, take, Some, slice_get, slice_index}
+use Rattle.std.specs.Prelude.{ℕ, ◌≡◌, ◌<◌, Bool, true, false, List, [], ◌∷◌, ◌++◌, length, take, Some, IsSome, slice_get, slice_index}
+use Rattle.pm_model.specs.Answer.{answer}
 use Rattle.pm_model.specs.History.{Machine, replay}
 use Rattle.pm_model.specs.declared.requests.Entry.{Entry}
 use Rattle.pm_world.specs.Seats.{count_by_seat}
@@ -16,8 +17,15 @@ machine_of entries = record { graph = (replay entries).graph; history = entries 
 abbrev pub AreLanes : ℕ → List Entry → List Laned → Type 0
 AreLanes seats history lanes = (s : ℕ) → s < seats → slice_get lanes s ≡ Some (lane s (count_by_seat s history))
 
--- the book's total is the history's length, and each seat has a lane and a count with as many entries as it has there
+-- the machine accepts the entry's request, and then has this entry more; or it doesn't, and stays
+abbrev pub GoesOn : Machine → Machine → Entry → Bool → Type 0
+GoesOn M N e true = IsSome (answer (replay M.history) e.request).next × (N.history ≡ M.history ++ e ∷ [])
+GoesOn M N e false = (IsSome (answer (replay M.history) e.request).next → ⊥) × (N ≡ M)
+
+-- a house of so many seats makes the history; the book's total is its length, and each seat has a lane and a count with as many
+-- entries as it has there
 pub record IsFooting (history : List Entry) (total : ℕ) (lanes : List Laned) (counts : List ℕ) (seats : ℕ) : Type 0 where
+  pub made : IsMade seats history
   pub sums : total ≡ length history
   pub lane_each : length lanes ≡ seats
   pub laned : AreLanes seats history lanes

@@ -6,6 +6,7 @@ ghost use Rattle.pm_machine.specs.Answered.{IsStep};
 ghost use Rattle.pm_model.specs.Answer.{longest_history};
 ghost use Rattle.pm_model.specs.Causes.{HasKeepCause};
 ghost use Rattle.pm_model.specs.History.{opening_machine};
+ghost use Rattle.pm_world.specs.Restored.{IsMade};
 ghost use Rattle.pm_world.specs.Seats.{count_by_seat};
 ghost use Rattle.pm_house.specs.Lanes.{entry_by};
 ghost use Rattle.pm_house.specs.Desks.{IsDesk, Comes, HasFaultCause, reply_told};
@@ -13,11 +14,12 @@ ghost use Rattle.pm_house.specs.Desks.{IsDesk, Comes, HasFaultCause, reply_told}
 use crate::home::Home;
 use crate::lane::Lane;
 use crate::restoring::count;
+use crate::sharing::ready;
 use crossbeam_utils::rule::Protocol;
 use left_right::Absorb;
 use pm_machine::{Stepped, Version};
 use pm_model::{Keep, KeepError, Memory, Reply, Request};
-use pm_publish::{Copies, Glimpse, NeverBack, Publisher, Sealed, Viewer};
+use pm_publish::{Glimpse, NeverBack, Publisher, Sealed, Viewer};
 use std::alloc::Global;
 use std::marker::Model;
 use std::sync::Wait;
@@ -100,15 +102,6 @@ where
     ghost invariant = { λ d. IsDesk (V.machine d.publisher) (option_map V.machine d.latest) (K.kept d.keeper) d.book.total d.counts.items H.all };
 }
 
-// The next version, with all pointers that its publication takes. The version after it can share what it has.
-fn ready<V: Version>(alloc: Global, next: V) -> Result<Copies<V>, Memory>
-    ensures { IfOk result (λ c. V.machine c ≡ V.machine next) }
-{
-    let mut next = next;
-    next.share()?;
-    Copies::new(alloc, next)
-}
-
 // Gives the last entry of this version to the keeper.
 fn keep_last<V: Version, K: Keep>(keeper: &mut K, at: u64, next: &V) -> Result<(), KeepError>
     requires room { at < longest_history }
@@ -171,11 +164,25 @@ impl<V: Version, K: Keep + Drop, H: Home> Desk<V, K, H> {
         self.counts[seat as usize]
     }
 
+    /// The keeper.
+    pub fn keeper(&self) -> &K
+        ensures { result.now ≡ self.now.1 }
+    {
+        &self.keeper
+    }
+
     /// Where the keeper tells its entries, they are the history.
     pub fn kept(&self)
         ensures { IfSome (K.kept self.now.1) (λ es. es ≡ self.now.0.history) }
     {
         let _keeper = &self.keeper;
+    }
+
+    /// The history is one that a house of as many seats makes, so such a house goes on from it.
+    pub fn made(&self)
+        ensures { IsMade H.all self.now.0.history }
+    {
+        let _counts = &self.counts;
     }
 
     // Tells a viewer the version that is published. False where what it holds is longer, or there are as many pointers
@@ -236,6 +243,7 @@ impl<V: Version, K: Keep + Drop, H: Home> Desk<V, K, H> {
         ensures calm { OnErr result (K.faults self.new.1 ≡ K.faults self.old.1) }
     {
         let _made = self.number_of(lane.seat());
+        self.shown().known();
         let at = self.shown().version();
         let next = ready(alloc, next)?;
         let _next = next.version().version();

@@ -10,12 +10,13 @@ mod restored;
 mod restoring;
 mod seat;
 mod seats;
+mod sharing;
 
 pub use desk::{Desk, Outcome, Submitted};
 pub use home::Home;
 pub use house::House;
 pub use lane::Lane;
 pub use opening::house_room;
-pub use restored::RestoreError;
+pub use restored::{Nobody, Progress, RestoreError};
 pub use seat::{Looked, Replied, Seat};
 pub use seats::Seats;

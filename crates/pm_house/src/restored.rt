@@ -32,13 +32,28 @@ impl From<Memory> for RestoreError {
     }
 }
 
+/// Whoever is told how far a house has come that goes on from a history.
+pub trait Progress {
+    /// So many of all its entries are taken, and the next one isn't yet.
+    fn reached(&mut self, taken: u64, all: u64);
+}
+
+/// Nobody.
+#[derive(Clone, Copy, Debug)]
+pub struct Nobody;
+
+impl Progress for Nobody {
+    fn reached(&mut self, _taken: u64, _all: u64) {}
+}
+
 /// What a house of these entries stands on.
-pub(crate) fn replayed<V: Version, H: Home, R: Threads + Sync>(
+pub(crate) fn replayed<V: Version, H: Home, R: Threads + Sync, P: Progress>(
     rt: &R,
     alloc: Global,
     blank: Blank,
     seats: u32,
     entries: &[Entry],
+    progress: &mut P,
 ) -> Result<Restoring<V, H>, RestoreError>
     requires ledger { (blank.name ≡ H.name) × (blank.parts ≡ H.parts) }
     requires seats { (H.all ≡ seats) × (H.parts ≡ seats) }
@@ -48,6 +63,7 @@ pub(crate) fn replayed<V: Version, H: Home, R: Threads + Sync>(
 {
     let mut restoring = Restoring::new(alloc, blank, seats)?;
     for at in 0..entries.len() {
+        progress.reached(at as u64, entries.len() as u64);
         if !restoring.take(rt, &entries[at])? {
             return Err(RestoreError::Illegal { at: at as u64 });
         }

@@ -1,16 +1,16 @@
 //! What a house stands on: a version, and the ledger, the lanes and the counts of its history, entry by entry.
 
-ghost use Rattle.std.specs.Prelude.{◌≡◌, ◌≢◌, ◌<◌, ◌≤◌, ◌+◌, ◌-◌, ◌^◌, ◌++◌, ◌∷◌, [], ℕ, length, replicate, Some, slice_get, slice_index, IfSome, IfNone, IfOk, MatchBool};
+ghost use Rattle.std.specs.Prelude.{◌≡◌, ◌≢◌, ◌<◌, ◌≤◌, ◌+◌, ◌-◌, ◌^◌, ◌++◌, ◌∷◌, [], ℕ, length, replicate, Some, slice_get, slice_index, IfSome, IfNone, IfOk, OnErr, MatchBool};
 ghost use Rattle.pm_model.specs.Answer.{longest_history};
 ghost use Rattle.pm_model.specs.History.{opening_machine};
 ghost use Rattle.pm_world.specs.Restored.{IsNext};
 ghost use Rattle.pm_world.specs.Seats.{count_by_seat};
 ghost use Rattle.pm_house.specs.Lanes.{lane};
-ghost use Rattle.pm_house.specs.Restored.{AreLanes, IsFooting};
+ghost use Rattle.pm_house.specs.Restored.{AreLanes, GoesOn, IsFooting};
 
 use crate::home::Home;
 use crate::lane::Lane;
-use pm_machine::{Stepped, Version};
+use pm_machine::Version;
 use pm_model::{Entry, Memory};
 use std::alloc::Global;
 use std::marker::Model;
@@ -102,13 +102,19 @@ fn enter<H: Home>(lanes: &mut Vec<Lane<H>>, seat: u32, book: &mut Book<H>)
     lanes[seat as usize].enter(book)
 }
 
-// The same, of which the version after it can share what it has.
-fn shared<V: Version>(version: V) -> Result<V, Memory>
-    ensures { IfOk result (λ v. V.machine v ≡ V.machine version) }
+// Whether the machine accepts the entry's request. Where it does, this version goes on by it; else, and on Memory, it stays.
+fn goes_on<V: Version, R: Threads + Sync>(
+    rt: &R,
+    version: &mut V,
+    entry: &Entry,
+) -> Result<bool, Memory>
+    ensures taken { IfOk result (GoesOn (V.machine version.old) (V.machine version.new) entry.now) }
+    ensures err { OnErr result (V.machine version.new ≡ V.machine version.old) }
 {
-    let mut version = version;
-    version.share()?;
-    Ok(version)
+    version.known();
+    let before = version.version();
+    let _reply = version.advance(rt, entry.seat, entry.nth, &entry.request)?;
+    Ok(version.version() > before)
 }
 
 impl<V: Version, H: Home> Restoring<V, H> {
@@ -121,7 +127,7 @@ impl<V: Version, H: Home> Restoring<V, H> {
         let (book, share) = blank.open::<H>();
         let lanes = lanes_of(alloc, share, seats)?;
         let counts = zeros(alloc, seats)?;
-        let state = shared(V::opening(alloc)?)?;
+        let state = V::opening(alloc)?;
         Ok(Restoring {
             state,
             book,
@@ -153,17 +159,13 @@ impl<V: Version, H: Home> Restoring<V, H> {
         if nth != entry.nth {
             return Ok(false);
         }
-        self.state.known();
-        match self.state.step(rt, entry.seat, entry.nth, &entry.request)? {
-            Stepped::Answered(_) => Ok(false),
-            Stepped::Accepted(next, _) => {
-                self.state = shared(next)?;
-                let _next = self.state.version();
-                enter(&mut self.lanes, entry.seat, &mut self.book);
-                count(&mut self.counts, entry.seat);
-                Ok(true)
-            }
+        if !goes_on(rt, &mut self.state, entry)? {
+            return Ok(false);
         }
+        let _next = self.state.version();
+        enter(&mut self.lanes, entry.seat, &mut self.book);
+        count(&mut self.counts, entry.seat);
+        Ok(true)
     }
 
     /// The version, and what of the house there is.

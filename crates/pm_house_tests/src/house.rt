@@ -12,7 +12,7 @@ use crossbeam_utils::rule::Protocol;
 use pm_house::{Home, House, Seat, Seats, house_room};
 use pm_io::{MemKeep, NoKeep};
 use pm_machine::Version;
-use pm_model::{Keep, Kind};
+use pm_model::Keep;
 use pm_publish::{Glimpse, NeverBack, Opened, Sealed};
 use pm_step::Edition;
 use std::alloc::Global;
@@ -36,43 +36,6 @@ fn house_of<K: Keep + Drop, H: Home, R: Abort + Alloc<A = Global>>(
     requires keeper { IfSome (K.kept keeper) (λ es. es ≡ []) }
 {
     House::open(rt.alloc(), opened, blank, keeper, seats).expect(rt, "memory")
-}
-
-fn first_requests<H: Home, R: Threads + Wait + Abort + Alloc<A = Global> + Sync>(
-    rt: &R,
-    opened: Opened,
-    blank: Blank,
-)
-    requires room { opened ≡ H.book }
-    requires ledger { (blank.name ≡ H.name) × (blank.parts ≡ H.parts) }
-    requires seats { (H.all ≡ 2) × (H.parts ≡ 2) }
-{
-    let (house, mut seats) = house_of::<NoKeep, H, R>(rt, opened, blank, NoKeep, 2);
-    let mut one = seats.seat(0).expect(rt, "seat 0");
-    let mut two = seats.seat(1).expect(rt, "seat 1");
-    ask_for_a_class(rt, &house, &mut one);
-    let inside = request(rt, Ask::Make(Kind::Ua, "x", "a"));
-    is_told(rt, &house, &mut two, &inside, Told::Done, 2);
-}
-
-fn ask_for_a_class<H: Home, R: Threads + Wait + Abort + Alloc<A = Global> + Sync>(
-    rt: &R,
-    house: &House<Edition, NoKeep, H>,
-    seat: &mut Seat<Edition, H>,
-) {
-    let version = request(rt, Ask::Version);
-    let class = request(rt, Ask::Class("a"));
-    is_seen(rt, seat, &class, None);
-    is_seen(rt, seat, &version, Some((Told::Done, 0)));
-    is_told(rt, house, seat, &version, Told::Done, 0);
-    is_told(rt, house, seat, &class, Told::Done, 1);
-    is_seen(rt, seat, &version, Some((Told::Done, 1)));
-}
-
-#[test]
-fn a_look_answers_and_the_desk_accepts(rt: HostRuntime) {
-    let (opened, blank) = house_room(2);
-    first_requests::<Brand, _>(&rt, opened, blank)
 }
 
 fn policy_of_a_stranger<H: Home, R: Threads + Wait + Abort + Alloc<A = Global> + Sync>(

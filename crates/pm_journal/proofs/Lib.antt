@@ -7,10 +7,11 @@ mod Sound
 mod Results
 mod Filling
 mod Windows
-mod Unique
+pub mod Unique
 mod Resuming
 mod Pieces
 mod Keeping
 mod Opening
 mod ItemByItem
 mod Parts
+mod Refusing

@@ -29,13 +29,14 @@ sound_of_rests e k begin notes may content front each image =
       record {
         front = subst (λ (ns : List Note). IsFront e k (take e content) ns) (sym kept) front_now;
         images = subst (λ (l : List ℕ). Each may (Rests e l)) (sym same) each;
+        room = tt;
       },
       kept,
     )
 
-pub sound_of_doubts : (e k : ℕ) (begin b : List ℕ) (notes : List Note) (may : List ℕ → Type 0) (content : List ℕ) → IsFront e k begin notes → IsBody b → Each may (Doubts e begin b) → may content
+pub sound_of_doubts : (e k : ℕ) (begin b : List ℕ) (notes : List Note) (may : List ℕ → Type 0) (content : List ℕ) → IsFront e k begin notes → IsBody b → k < 262144 → Each may (Doubts e begin b) → may content
     → IsSound content may e k (suc (length b)) × (kept_in k (take e content) ≡ notes) × (lost_in (suc (length b)) (drop (e + 1) content) ≡ Some (note_of b))
-sound_of_doubts e k begin b notes may content front body each image =
+sound_of_doubts e k begin b notes may content front body room each image =
     let this = each content image in
     let same : take e content ≡ begin = this.begins in
     let kept : kept_in k (take e content) ≡ notes = ap (kept_in k) same ∙ front_kept e k begin notes front in
@@ -49,6 +50,7 @@ sound_of_doubts e k begin b notes may content front body each image =
           ap length here,
           subst (λ (l : List ℕ). Each may (Doubts e l (take (length b) (drop (e + 1) content)))) (sym same) (subst (λ (l : List ℕ). Each may (Doubts e begin l)) (sym here) each),
         );
+        room = room;
       },
       kept,
       ap (λ (l : List ℕ). Some (note_of l)) here,
@@ -68,7 +70,7 @@ sound_of_doubts e k begin b notes may content front body each image =
 pub sound_stands : (e k n : ℕ) (content : List ℕ) (may : List ℕ → Type 0) → IsSound content may e k n → Each may (StandsFor (kept_in k (take e content)) (lost_in n (drop (e + 1) content)))
 sound_stands e k zero content may sound c left = inl (rests_stands e k (take e content) (kept_in k (take e content)) c sound.front (sound.images c left))
 sound_stands e k (suc n) content may sound c left =
-    doubts_stands e k (take e content) (take n (drop (e + 1) content)) (kept_in k (take e content)) c sound.front sound.images.0 (sound.images.2 c left)
+    doubts_stands e k (take e content) (take n (drop (e + 1) content)) (kept_in k (take e content)) c sound.front sound.images.0 sound.room (sound.images.2 c left)
 
 pub sound_count : (e k n : ℕ) (content : List ℕ) (may : List ℕ → Type 0) → IsSound content may e k n → k ≡ length (kept_in k (take e content))
 sound_count e k n content may sound = sym (as_many k (drop 8 (take e content)) (kept_in k (take e content)) sound.front.records)
@@ -78,7 +80,7 @@ sound_count e k n content may sound = sym (as_many k (drop 8 (take e content)) (
 pub piece_size : (piece : List ℕ) → IsPiece piece → length piece ≡ suc (length (take (length piece - 1) piece))
 piece_size piece is = omega (arith, ap length is.split, length-append (take (length piece - 1) piece) (0 ∷ []))
 
-module _ (e k : ℕ) (c0 piece : List ℕ) (may0 : List ℕ → Type 0) (sound : IsSound c0 may0 e k 0) (piece_is : IsPiece piece) where
+module _ (e k : ℕ) (c0 piece : List ℕ) (may0 : List ℕ → Type 0) (sound : IsSound c0 may0 e k 0) (piece_is : IsPiece piece) (room : k < 262144) where
   abbrev b : List ℕ
   b = take (length piece - 1) piece
 
@@ -104,7 +106,7 @@ module _ (e k : ℕ) (c0 piece : List ℕ) (may0 : List ℕ → Type 0) (sound :
       → IsSound c2 may2 e k (length piece) × (kept_in k (take e c2) ≡ notes) × (lost_in (length piece) (drop (e + 1) c2) ≡ Some (noted piece))
   turn_failed may2 c2 each image =
       subst (λ (n : ℕ). IsSound c2 may2 e k n × (kept_in k (take e c2) ≡ notes) × (lost_in n (drop (e + 1) c2) ≡ Some (noted piece))) (sym (piece_size piece piece_is))
-      (sound_of_doubts e k start b notes may2 c2 sound.front piece_is.body each image)
+      (sound_of_doubts e k start b notes may2 c2 sound.front piece_is.body room each image)
 
   pub turn_done : (c1 c2 : List ℕ) (may2 : List ℕ → Type 0) → Doubts e start b c1 → Holds c1 e (1 ∷ []) c2 → Each may2 (λ c. c ≡ c2) → may2 c2
       → IsSound c2 may2 (e + length piece) (k + 1) 0 × (kept_in (k + 1) (take (e + length piece) c2) ≡ notes ++ noted piece ∷ [])
@@ -112,7 +114,7 @@ module _ (e k : ℕ) (c0 piece : List ℕ) (may0 : List ℕ → Type 0) (sound :
       let end : e + length piece ≡ e + (length b + 1) = omega (arith, size) in
       let count : k + 1 ≡ suc k = omega arith in
       let rests : Rests (e + (length b + 1)) (start ++ 1 ∷ b) c2 = turned_open e start b c1 c2 doubts sound.front.long holds in
-      let front = front_more 0 e k start b notes (front_room e k start notes sound.front) sound.front piece_is.body in
+      let front = front_more 0 e k start b notes (front_room e k start notes sound.front) sound.front piece_is.body room in
       let each : Each may2 (Rests (e + (length b + 1)) (start ++ 1 ∷ b)) = λ c left. subst (Rests (e + (length b + 1)) (start ++ 1 ∷ b)) (sym (only c left)) rests in
       subst (λ (m : ℕ). IsSound c2 may2 (e + length piece) m 0 × (kept_in m (take (e + length piece) c2) ≡ notes ++ noted piece ∷ [])) (sym count)
       (subst (λ (m : ℕ). IsSound c2 may2 m (suc k) 0 × (kept_in (suc k) (take m c2) ≡ notes ++ noted piece ∷ [])) (sym end)
@@ -122,7 +124,7 @@ module _ (e k : ℕ) (c0 piece : List ℕ) (may0 : List ℕ → Type 0) (sound :
   rests_for c rests = inl (rests_stands e k start notes c sound.front rests)
 
   pub doubts_for : (c : List ℕ) → Doubts e start b c → StandsFor notes (Some (noted piece)) c
-  doubts_for c doubts = doubts_stands e k start b notes c sound.front piece_is.body doubts
+  doubts_for c doubts = doubts_stands e k start b notes c sound.front piece_is.body room doubts
 
 -- ---- a gate in doubt is closed
 
@@ -140,7 +142,7 @@ module _ (e k m : ℕ) (c0 : List ℕ) (may0 : List ℕ → Type 0) (sound : IsS
       → IsSound c1 may1 e k (suc m) × (kept_in k (take e c1) ≡ noted_so_far) × (lost_in (suc m) (drop (e + 1) c1) ≡ Some (note_of doubted))
   shut_failed may1 c1 each image =
       subst (λ (n : ℕ). IsSound c1 may1 e k (suc n) × (kept_in k (take e c1) ≡ noted_so_far) × (lost_in (suc n) (drop (e + 1) c1) ≡ Some (note_of doubted))) sound.images.1
-      (sound_of_doubts e k begun doubted noted_so_far may1 c1 sound.front sound.images.0 each image)
+      (sound_of_doubts e k begun doubted noted_so_far may1 c1 sound.front sound.images.0 sound.room each image)
 
   pub shut_done : (c1 : List ℕ) (may1 : List ℕ → Type 0) → may0 c0 → Holds c0 e (0 ∷ []) c1 → Each may1 (λ c. c ≡ c1) → may1 c1
       → IsSound c1 may1 e k 0 × (kept_in k (take e c1) ≡ noted_so_far)
@@ -149,4 +151,4 @@ module _ (e k m : ℕ) (c0 : List ℕ) (may0 : List ℕ → Type 0) (sound : IsS
       sound_of_rests e k begun noted_so_far may1 c1 sound.front (λ c left. subst (Rests e begun) (sym (only c left)) rests) now
 
   pub doubted_for : (c : List ℕ) → Doubts e begun doubted c → StandsFor noted_so_far (Some (note_of doubted)) c
-  doubted_for c doubts = doubts_stands e k begun doubted noted_so_far c sound.front sound.images.0 doubts
+  doubted_for c doubts = doubts_stands e k begun doubted noted_so_far c sound.front sound.images.0 sound.room doubts

@@ -39,18 +39,20 @@ rests_stands e k begin notes bytes front rests = record {
       ∙ append_assoc header (drop 8 begin) (0 ∷ drop (e + 1) bytes);
   records = records_of e k begin notes front;
   lines = front.lines;
+  few = omega (arith, as_many k (drop 8 begin) notes front.records, front.few);
 }
 
-gate_stands : (e k : ℕ) (begin b : List ℕ) (notes : List Note) (rest : List ℕ) (g : ℕ) → IsFront e k begin notes → IsBody b → (bytes : List ℕ)
+gate_stands : (e k : ℕ) (begin b : List ℕ) (notes : List Note) (rest : List ℕ) (g : ℕ) → IsFront e k begin notes → IsBody b → k < 262144 → (bytes : List ℕ)
     → bytes ≡ (header ++ drop 8 begin) ++ g ∷ b ++ 0 ∷ rest → StandsFor notes (Some (note_of b)) bytes
-gate_stands e k begin b notes rest zero front body bytes is = inl (record {
+gate_stands e k begin b notes rest zero front body room bytes is = inl (record {
   front = drop 8 begin;
   rest = b ++ 0 ∷ rest;
   split = is ∙ append_assoc (header ++ drop 8 begin) (0 ∷ b) (0 ∷ rest);
   records = records_of e k begin notes front;
   lines = front.lines;
+  few = omega (arith, as_many k (drop 8 begin) notes front.records, front.few);
 })
-gate_stands e k begin b notes rest (suc g) front body bytes is =
+gate_stands e k begin b notes rest (suc g) front body room bytes is =
     let count : length (notes ++ note_of b ∷ []) ≡ suc k = omega (arith, length-append notes (note_of b ∷ []), as_many k (drop 8 begin) notes front.records) in
     inr (record {
       front = drop 8 begin ++ suc g ∷ b;
@@ -59,14 +61,15 @@ gate_stands e k begin b notes rest (suc g) front body bytes is =
           is ∙ ap (λ (l : List ℕ). l ++ 0 ∷ rest) (append_assoc header (drop 8 begin) (suc g ∷ b));
       records = ap (λ (n : ℕ). notes_in n (drop 8 begin ++ suc g ∷ b)) count ∙ one_more k g (drop 8 begin) b notes front.records body;
       lines = lines_more notes (note_of b) front.lines body.note;
+      few = omega (arith, count, room);
     })
 
-pub doubts_stands : (e k : ℕ) (begin b : List ℕ) (notes : List Note) (bytes : List ℕ) → IsFront e k begin notes → IsBody b → Doubts e begin b bytes → StandsFor notes (Some (note_of b)) bytes
-doubts_stands e k begin b notes bytes front body doubts =
+pub doubts_stands : (e k : ℕ) (begin b : List ℕ) (notes : List Note) (bytes : List ℕ) → IsFront e k begin notes → IsBody b → k < 262144 → Doubts e begin b bytes → StandsFor notes (Some (note_of b)) bytes
+doubts_stands e k begin b notes bytes front body room doubts =
     let rest = drop (length b + 1) (drop (e + 1) bytes) in
     let behind : drop (e + 1) bytes ≡ b ++ 0 ∷ rest =
     sym (take-append-drop (length b + 1) (drop (e + 1) bytes)) ∙ ap (λ (l : List ℕ). l ++ rest) doubts.body ∙ append_assoc b (0 ∷ []) rest in
-    gate_stands e k begin b notes rest (get_or bytes e 1) front body bytes (
+    gate_stands e k begin b notes rest (get_or bytes e 1) front body room bytes (
     at_gate e bytes 1 doubts.gate
     ∙ ap (λ (l : List ℕ). l ++ get_or bytes e 1 ∷ drop (e + 1) bytes) (doubts.begins ∙ behind_header e k begin notes front)
     ∙ ap (λ (l : List ℕ). (header ++ drop 8 begin) ++ get_or bytes e 1 ∷ l) behind
@@ -119,12 +122,13 @@ turned_open e begin b old new doubts long holds =
     }
 
 -- the front with that record
-pub front_more : (g e k : ℕ) (begin b : List ℕ) (notes : List Note) → 8 ≤ e → IsFront e k begin notes → IsBody b → IsFront (e + (length b + 1)) (suc k) (begin ++ suc g ∷ b) (notes ++ note_of b ∷ [])
-front_more g e k begin b notes room front body = record {
+pub front_more : (g e k : ℕ) (begin b : List ℕ) (notes : List Note) → 8 ≤ e → IsFront e k begin notes → IsBody b → k < 262144 → IsFront (e + (length b + 1)) (suc k) (begin ++ suc g ∷ b) (notes ++ note_of b ∷ [])
+front_more g e k begin b notes header_there front body room = record {
   long = omega (arith, front.long, length-append begin (suc g ∷ b));
-  header = take-append-le 8 begin (suc g ∷ b) (omega (arith, room, front.long)) ∙ front.header;
-  records = ap (notes_in (suc k)) (drop-append-le 8 begin (suc g ∷ b) (omega (arith, room, front.long))) ∙ one_more k g (drop 8 begin) b notes front.records body;
+  header = take-append-le 8 begin (suc g ∷ b) (omega (arith, header_there, front.long)) ∙ front.header;
+  records = ap (notes_in (suc k)) (drop-append-le 8 begin (suc g ∷ b) (omega (arith, header_there, front.long))) ∙ one_more k g (drop 8 begin) b notes front.records body;
   lines = lines_more notes (note_of b) front.lines body.note;
+  few = omega (arith, room);
 }
 
 pub front_room : (e k : ℕ) (begin : List ℕ) (notes : List Note) → IsFront e k begin notes → 8 ≤ e

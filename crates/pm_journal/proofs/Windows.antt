@@ -102,9 +102,9 @@ whole_line note bytes is =
     let total : length bytes ≡ length body + 1 = omega (arith, length-drop 1 bytes, is.whole) in
     omega (arith, ap (λ (n : Note). length n.line) is.note_is, length-take (line_length body) (drop 16 body), length-drop 16 body, is.whole, total)
 
-pub reads_more : (at k : ℕ) (content : List ℕ) (notes : List Note) (note : Note) → IsFront at k (take at content) notes → IsWhole note (drop at content)
+pub reads_more : (at k : ℕ) (content : List ℕ) (notes : List Note) (note : Note) → IsFront at k (take at content) notes → IsWhole note (drop at content) → k < 262144
     → IsFront (at + (17 + length note.line)) (k + 1) (take (at + (17 + length note.line)) content) (notes ++ note ∷ []) × (length note.line ≤ 8192)
-reads_more at k content notes note front is =
+reads_more at k content notes note front is room =
     let body = drop 1 (drop at content) in
     let total : length (drop at content) ≡ length body + 1 = omega (arith, length-drop 1 (drop at content), is.whole) in
     let fits : size body ≤ length body = omega (arith, is.whole, total) in
@@ -128,7 +128,7 @@ reads_more at k content notes note front is =
     ∙ ap (λ (n : ℕ). take at content ++ take n (suc gate.0 ∷ drop (at + 1) content)) (let m : length b + 1 ≡ suc (length b) = omega arith in m)
     ∙ ap (λ (l : List ℕ). take at content ++ suc gate.0 ∷ take (length b) l) (sym (drop-drop 1 at content))
     ∙ ap (λ (n : ℕ). take at content ++ suc gate.0 ∷ take n body) b_size in
-    let next = front_more gate.0 at k (take at content) b notes (front_room at k (take at content) notes front) front is_body in (
+    let next = front_more gate.0 at k (take at content) b notes (front_room at k (take at content) notes front) front is_body room in (
       subst (λ (n : ℕ). IsFront (at + (17 + length note.line)) n (take (at + (17 + length note.line)) content) (notes ++ note ∷ [])) (sym count)
           (subst (λ (n : ℕ). IsFront n (suc k) (take n content) (notes ++ note ∷ [])) (sym end)
           (subst (λ (x : Note). IsFront (at + (length b + 1)) (suc k) (take (at + (length b + 1)) content) (notes ++ x ∷ [])) (sym note_is)
@@ -136,13 +136,13 @@ reads_more at k content notes note front is =
       omega (arith, line_is, is.short),
     )
 
-pub reads_entry : (at k : ℕ) (content : List ℕ) (entries : List Entry) (entry : Entry) (len : ℕ) → AreRead at k content entries → IsFoundWhole (drop at content) entry len
+pub reads_entry : (at k : ℕ) (content : List ℕ) (entries : List Entry) (entry : Entry) (len : ℕ) → AreRead at k content entries → IsFoundWhole (drop at content) entry len → k < 262144
     → AreRead (at + (17 + len)) (k + 1) content (entries ++ entry ∷ [])
-reads_entry at k content entries entry len read found =
+reads_entry at k content entries entry len read found room =
     let note = note_of (drop 1 (drop at content)) in
     let notes = kept_in k (take at content) in
     let line : length note.line ≡ len = whole_line note (drop at content) found.whole ∙ sym found.len_is in
-    let next = subst (λ (n : ℕ). IsFront (at + (17 + n)) (k + 1) (take (at + (17 + n)) content) (notes ++ note ∷ [])) line (reads_more at k content notes note read.front found.whole).0 in
+    let next = subst (λ (n : ℕ). IsFront (at + (17 + n)) (k + 1) (take (at + (17 + n)) content) (notes ++ note ∷ [])) line (reads_more at k content notes note read.front found.whole room).0 in
     let end = at + (17 + len) in
     let kept : kept_in (k + 1) (take end content) ≡ notes ++ note ∷ [] = front_kept end (k + 1) (take end content) (notes ++ note ∷ []) next in
     record {
@@ -168,6 +168,7 @@ reads_none content is = record {
   header = ap (λ (l : List ℕ). take 8 l) is;
   records = ap (λ (l : List ℕ). notes_in 0 (drop 8 l)) is;
   lines = tt;
+  few = omega arith;
 }
 
 pub none_kept : (content : List ℕ) → take 8 content ≡ header → kept_in 0 (take 8 content) ≡ []

@@ -3,13 +3,15 @@ use Rattle.std.specs.Prelude.{◌≡◌, ◌≢◌, ◌⊎◌, ℕ, zero, suc, �
 use Rattle.pm_model.specs.Formed.{Each as EachOf}
 use Rattle.pm_journal.specs.Notes.{Note, IsNote, header, size, note_of, notes_in}
 
--- the bytes stand for these notes: behind the header their records, and then a closed gate; what is behind it means nothing
+-- the bytes stand for these notes, 262,144 at most: behind the header their records, and then a closed gate; what is behind it means
+-- nothing
 pub record Stands (notes : List Note) (bytes : List ℕ) : Type 0 where
   pub front : List ℕ
   pub rest : List ℕ
   pub split : bytes ≡ header ++ front ++ 0 ∷ rest
   pub records : notes_in (length notes) front ≡ Some notes
   pub lines : EachOf IsNote notes
+  pub few : length notes ≤ 262144
 
 -- the bytes begin so, and a closed gate stands behind that, at e
 pub record Rests (e : ℕ) (begin bytes : List ℕ) : Type 0 where
@@ -27,9 +29,10 @@ pub record IsBody (behind : List ℕ) : Type 0 where
   pub whole : size behind ≡ length behind
   pub note : IsNote (note_of behind)
 
--- this many records, behind a header
+-- this many records, 262,144 at most, behind a header
 pub record IsFront (e k : ℕ) (begin : List ℕ) (notes : List Note) : Type 0 where
   pub long : length begin ≡ e
   pub header : take 8 begin ≡ header
   pub records : notes_in k (drop 8 begin) ≡ Some notes
   pub lines : EachOf IsNote notes
+  pub few : k ≤ 262144

@@ -1,5 +1,5 @@
 -- What a journal keeps, and what a crash may leave of it. The project's own.
-use Rattle.std.specs.Prelude.{◌≡◌, ◌⊎◌, ℕ, zero, suc, ◌+◌, ◌-◌, ◌*◌, ◌≤◌, List, [], ◌∷◌, ◌++◌, length, take, drop, Option, None, Some, IfSome}
+use Rattle.std.specs.Prelude.{◌≡◌, ◌⊎◌, ℕ, zero, suc, ◌+◌, ◌-◌, ◌*◌, ◌<◌, ◌≤◌, List, [], ◌∷◌, ◌++◌, length, take, drop, Option, None, Some, IfSome}
 use Rattle.pm_disk.specs.Disks.{Each}
 use Rattle.pm_journal.specs.Notes.{Note, note_of, notes_in}
 use Rattle.pm_journal.specs.Images.{Stands, Rests, Doubts, IsBody, IsFront}
@@ -33,9 +33,15 @@ AreImages content images e (suc n) =
     IsBody (take n (drop (e + 1) content)) × (length (take n (drop (e + 1) content)) ≡ n)
     × Each images (Doubts e (take e content) (take n (drop (e + 1) content)))
 
+-- a record whose gate is in doubt has its place
+abbrev pub HasRoom : ℕ → ℕ → Type 0
+HasRoom k zero = Unit {0}
+HasRoom k (suc n) = k < 262144
+
 pub record IsSound (content : List ℕ) (may_leave : List ℕ → Type 0) (e k n : ℕ) : Type 0 where
   pub front : IsFront e k (take e content) (kept_in k (take e content))
   pub images : AreImages content may_leave e n
+  pub room : HasRoom k n
 
 -- how far its numbers go
 pub record IsPlaced (e k n : ℕ) : Type 0 where

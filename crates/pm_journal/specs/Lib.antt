@@ -7,3 +7,4 @@ pub mod Ends
 pub mod Kept
 pub mod Heads
 pub mod Opens
+pub mod Refusals

@@ -24,11 +24,13 @@ pub record AsksNothing (bytes : List ℕ) : Type 0 where
 abbrev pub IsBroken : List ℕ → Type 0
 IsBroken bytes = (length bytes ≡ 0) ⊎ ((get_or bytes 0 0 ≢ 0) × ((length bytes ≤ size (drop 1 bytes) + 1) ⊎ ((8192 < line_length (drop 1 bytes)) ⊎ AsksNothing bytes)))
 
--- the first place for a gate at which something is wrong: behind so many records the bytes are broken, or there are too many
+-- the first place for a gate at which something is wrong: behind so many records, each with a byte behind it, the bytes are broken, or
+-- there are too many
 pub record IsDamagedAt (at : ℕ) (content : List ℕ) : Type 0 where
   pub count : ℕ
   pub notes : List Note
   pub front : IsFront at count (take at content) notes
+  pub there : at < length content
   pub wrong : IsBroken (drop at content) ⊎ ((count ≡ 262144) × (get_or content at 0 ≢ 0))
 
 -- so many records stand behind the header, up to this place, and these are their entries

@@ -10,7 +10,8 @@ use pm_model::{Act, Action, Guard, NameList, ProcessTerm, Response, Subject, Ter
 const MOST_GUARDS: usize = 4;
 
 fn is_term(term: &Term) -> bool
-    ensures { IsTrue result → IsTerm term.now }
+    ensures only { IsTrue result → IsTerm term.now }
+    ensures all { IsTerm term.now → IsTrue result }
 {
     match term {
         Term::Named(name) => is_named(name),
@@ -20,13 +21,15 @@ fn is_term(term: &Term) -> bool
 }
 
 fn both_terms(one: &Term, other: &Term) -> bool
-    ensures { IsTrue result → IsTerm one.now × IsTerm other.now }
+    ensures only { IsTrue result → IsTerm one.now × IsTerm other.now }
+    ensures all { IsTerm one.now × IsTerm other.now → IsTrue result }
 {
     is_term(one) && is_term(other)
 }
 
 fn are_terms(terms: &[Term]) -> bool
-    ensures { IsTrue result → Each IsTerm terms.now }
+    ensures only { IsTrue result → Each IsTerm terms.now }
+    ensures all { Each IsTerm terms.now → IsTrue result }
 {
     for i in 0..terms.len() {
         if !is_term(&terms[i]) {
@@ -38,7 +41,8 @@ fn are_terms(terms: &[Term]) -> bool
 
 // What may be given to what is made.
 fn is_given(term: &Term) -> bool
-    ensures { IsTrue result → IsGiven term.now }
+    ensures only { IsTrue result → IsGiven term.now }
+    ensures all { IsGiven term.now → IsTrue result }
 {
     match term {
         Term::Named(name) => is_named(name),
@@ -48,7 +52,8 @@ fn is_given(term: &Term) -> bool
 }
 
 fn is_process(term: &ProcessTerm) -> bool
-    ensures { IsTrue result → IsProcessTerm term.now }
+    ensures only { IsTrue result → IsProcessTerm term.now }
+    ensures all { IsProcessTerm term.now → IsTrue result }
 {
     match term {
         ProcessTerm::Number(n) => is_short(*n),
@@ -57,7 +62,8 @@ fn is_process(term: &ProcessTerm) -> bool
 }
 
 fn is_subject(subject: &Subject<Term, ProcessTerm>) -> bool
-    ensures { IsTrue result → IsSubject IsTerm IsProcessTerm subject.now }
+    ensures only { IsTrue result → IsSubject IsTerm IsProcessTerm subject.now }
+    ensures all { IsSubject IsTerm IsProcessTerm subject.now → IsTrue result }
 {
     match subject {
         Subject::User(term) => is_term(term),
@@ -67,13 +73,15 @@ fn is_subject(subject: &Subject<Term, ProcessTerm>) -> bool
 }
 
 fn is_guard(guard: &Guard) -> bool
-    ensures { IsTrue result → IsGuard guard.now }
+    ensures only { IsTrue result → IsGuard guard.now }
+    ensures all { IsGuard guard.now → IsTrue result }
 {
     both_terms(&guard.inner, &guard.outer)
 }
 
 fn are_guards(guards: &[Guard]) -> bool
-    ensures { IsTrue result → Each IsGuard guards.now }
+    ensures only { IsTrue result → Each IsGuard guards.now }
+    ensures all { Each IsGuard guards.now → IsTrue result }
 {
     for i in 0..guards.len() {
         if !is_guard(&guards[i]) {
@@ -90,7 +98,8 @@ fn are_bars(
     inc: &TermList,
     exc: &TermList,
 ) -> bool
-    ensures { IsTrue result → AreBars AreRights name.now subject.now rights.now inc.now exc.now }
+    ensures only { IsTrue result → AreBars AreRights name.now subject.now rights.now inc.now exc.now }
+    ensures all { AreBars AreRights name.now subject.now rights.now inc.now exc.now → IsTrue result }
 {
     is_given(name)
         && is_subject(subject)
@@ -101,7 +110,8 @@ fn are_bars(
 }
 
 fn is_act(act: &Act) -> bool
-    ensures { IsTrue result → IsAct AreRights act.now }
+    ensures only { IsTrue result → IsAct AreRights act.now }
+    ensures all { IsAct AreRights act.now → IsTrue result }
 {
     match act {
         Act::Create { kind, name, into } => {
@@ -125,7 +135,8 @@ fn is_act(act: &Act) -> bool
 }
 
 fn is_action(action: &Action) -> bool
-    ensures { IsTrue result → IsAction AreRights action.now }
+    ensures only { IsTrue result → IsAction AreRights action.now }
+    ensures all { IsAction AreRights action.now → IsTrue result }
 {
     action.guards.len() <= MOST_GUARDS
         && are_guards(action.guards.as_slice())
@@ -133,7 +144,8 @@ fn is_action(action: &Action) -> bool
 }
 
 fn each_action(actions: &[Action]) -> bool
-    ensures { IsTrue result → Each (IsAction AreRights) actions.now }
+    ensures only { IsTrue result → Each (IsAction AreRights) actions.now }
+    ensures all { Each (IsAction AreRights) actions.now → IsTrue result }
 {
     for i in 0..actions.len() {
         if !is_action(&actions[i]) {
@@ -146,7 +158,8 @@ fn each_action(actions: &[Action]) -> bool
 /// Whether a line can give the response.
 #[tactic(auto, using(crate::proofs::ItemByItem::response_fits))]
 pub(crate) fn are_actions(response: &Response) -> bool
-    ensures { IsTrue result → AreActions response.now }
+    ensures only { IsTrue result → AreActions response.now }
+    ensures all { AreActions response.now → IsTrue result }
 {
     let actions = response.actions();
     each_action(actions.as_slice())

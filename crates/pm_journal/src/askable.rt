@@ -13,14 +13,16 @@ const MOST_LISTED: usize = 32;
 
 /// A name has a name's form.
 pub(crate) fn is_named(name: &Name) -> bool
-    ensures { IsTrue result → IsNamed name.now }
+    ensures only { IsTrue result → IsNamed name.now }
+    ensures all { IsNamed name.now → IsTrue result }
 {
     let bytes = name.bytes();
     !bytes.is_empty()
 }
 
 fn named_if(name: &Option<Name>) -> bool
-    ensures { IsTrue result → IfSome name.now IsNamed }
+    ensures only { IsTrue result → IfSome name.now IsNamed }
+    ensures all { IfSome name.now IsNamed → IsTrue result }
 {
     match name {
         None => true,
@@ -29,13 +31,15 @@ fn named_if(name: &Option<Name>) -> bool
 }
 
 fn both_named(one: &Name, other: &Name) -> bool
-    ensures { IsTrue result → IsNamed one.now × IsNamed other.now }
+    ensures only { IsTrue result → IsNamed one.now × IsNamed other.now }
+    ensures all { IsNamed one.now × IsNamed other.now → IsTrue result }
 {
     is_named(one) && is_named(other)
 }
 
 fn are_named(names: &[Name]) -> bool
-    ensures { IsTrue result → AreNamed names.now }
+    ensures only { IsTrue result → AreNamed names.now }
+    ensures all { AreNamed names.now → IsTrue result }
 {
     for i in 0..names.len() {
         if !is_named(&names[i]) {
@@ -47,13 +51,15 @@ fn are_named(names: &[Name]) -> bool
 
 /// A number has 32 bits.
 pub(crate) fn is_short(n: u32) -> bool
-    ensures { IsTrue result → IsShort n }
+    ensures only { IsTrue result → IsShort n }
+    ensures all { IsShort n → IsTrue result }
 {
     n <= u32::MAX
 }
 
 fn are_listed(names: &NameList) -> bool
-    ensures { IsTrue result → AreListed names.now }
+    ensures only { IsTrue result → AreListed names.now }
+    ensures all { AreListed names.now → IsTrue result }
 {
     0 < names.len() && names.len() <= MOST_LISTED && are_named(names.as_slice())
 }
@@ -65,7 +71,8 @@ fn contains(names: &[Name], name: &Name) -> bool
 }
 
 fn is_distinct(names: &[Name]) -> bool
-    ensures { IsTrue result → distinct names.now ≡ names.now }
+    ensures only { IsTrue result → distinct names.now ≡ names.now }
+    ensures all { distinct names.now ≡ names.now → IsTrue result }
 {
     for i in 0..names.len() {
         if contains(&names[..i], &names[i]) {
@@ -77,14 +84,16 @@ fn is_distinct(names: &[Name]) -> bool
 
 /// A list of rights has 1 to 32 names, each once.
 pub(crate) fn are_rights(names: &NameList) -> bool
-    ensures { IsTrue result → AreRights names.now }
+    ensures only { IsTrue result → AreRights names.now }
+    ensures all { AreRights names.now → IsTrue result }
 {
     are_listed(names) && is_distinct(names.as_slice())
 }
 
 /// What is made in a container is no class.
 pub(crate) fn is_contained(kind: Kind) -> bool
-    ensures { IsTrue result → IsContained kind }
+    ensures only { IsTrue result → IsContained kind }
+    ensures all { IsContained kind → IsTrue result }
 {
     match kind {
         Kind::User | Kind::Ua | Kind::Object | Kind::Oa => true,
@@ -94,13 +103,15 @@ pub(crate) fn is_contained(kind: Kind) -> bool
 
 /// Two lists have at most 32 items together.
 pub(crate) fn are_few(one: usize, other: usize) -> bool
-    ensures { IsTrue result → one + other ≤ 32 }
+    ensures only { IsTrue result → one + other ≤ 32 }
+    ensures all { one + other ≤ 32 → IsTrue result }
 {
     one <= MOST_LISTED && other <= MOST_LISTED - one
 }
 
 fn is_subject(subject: &Subject<Name, u32>) -> bool
-    ensures { IsTrue result → IsSubject IsNamed IsShort subject.now }
+    ensures only { IsTrue result → IsSubject IsNamed IsShort subject.now }
+    ensures all { IsSubject IsNamed IsShort subject.now → IsTrue result }
 {
     match subject {
         Subject::User(name) => is_named(name),
@@ -116,7 +127,8 @@ fn are_sets(
     inc: &NameList,
     exc: &NameList,
 ) -> bool
-    ensures { IsTrue result → AreSets name.now subject.now rights.now inc.now exc.now }
+    ensures only { IsTrue result → AreSets name.now subject.now rights.now inc.now exc.now }
+    ensures all { AreSets name.now subject.now rights.now inc.now exc.now → IsTrue result }
 {
     is_named(name)
         && is_subject(subject)
@@ -127,13 +139,15 @@ fn are_sets(
 }
 
 fn is_when(when: &When) -> bool
-    ensures { IsTrue result → IsWhen when.now }
+    ensures only { IsTrue result → IsWhen when.now }
+    ensures all { IsWhen when.now → IsTrue result }
 {
     is_named(&when.on) && named_if(&when.user) && named_if(&when.target)
 }
 
 fn is_kept(of: &ReviewOf<Name>) -> bool
-    ensures { IsTrue result → IsKept of.now }
+    ensures only { IsTrue result → IsKept of.now }
+    ensures all { IsKept of.now → IsTrue result }
 {
     match of {
         ReviewOf::Caps(name) => is_named(name),
@@ -142,7 +156,8 @@ fn is_kept(of: &ReviewOf<Name>) -> bool
 }
 
 fn is_command(command: &Command) -> bool
-    ensures { IsTrue result → IsCommand command.now }
+    ensures only { IsTrue result → IsCommand command.now }
+    ensures all { IsCommand command.now → IsTrue result }
 {
     match command {
         Command::CreatePc { name } => is_named(name),
@@ -174,7 +189,8 @@ fn is_command(command: &Command) -> bool
 }
 
 fn is_question(question: &Question) -> bool
-    ensures { IsTrue result → IsQuestion question.now }
+    ensures only { IsTrue result → IsQuestion question.now }
+    ensures all { IsQuestion question.now → IsTrue result }
 {
     match question {
         Question::Caps { user } => is_named(user),
@@ -186,7 +202,8 @@ fn is_question(question: &Question) -> bool
 }
 
 fn is_body(body: &Body) -> bool
-    ensures { IsTrue result → IsBody body.now }
+    ensures only { IsTrue result → IsBody body.now }
+    ensures all { IsBody body.now → IsTrue result }
 {
     match body {
         Body::Version => true,
@@ -205,7 +222,8 @@ fn is_body(body: &Body) -> bool
 }
 
 fn is_whole_if(n: Option<u64>) -> bool
-    ensures { IsTrue result → IfSome n (λ m. m < 2 ^ 64) }
+    ensures only { IsTrue result → IfSome n (λ m. m < 2 ^ 64) }
+    ensures all { IfSome n (λ m. m < 2 ^ 64) → IsTrue result }
 {
     match n {
         None => true,
@@ -215,7 +233,8 @@ fn is_whole_if(n: Option<u64>) -> bool
 
 /// Whether a line can ask for the request.
 pub(crate) fn is_askable(request: &Request) -> bool
-    ensures { IsTrue result → IsAskable request.now }
+    ensures only { IsTrue result → IsAskable request.now }
+    ensures all { IsAskable request.now → IsTrue result }
 {
     is_whole_if(request.after) && is_body(&request.body)
 }

@@ -1,13 +1,16 @@
 //! The journal.
 
-ghost use Rattle.std.specs.Prelude.{◌≡◌, ◌⊎◌, ◌≤◌, ◌<◌, ◌+◌, ◌++◌, ◌∷◌, [], true, List, ℕ, Option, None, Some, length, map, IfOk, IfErr, OnOk, OnErr};
+ghost use Rattle.std.specs.Prelude.{◌≡◌, ◌⊎◌, ◌≤◌, ◌<◌, ◌+◌, ◌++◌, ◌∷◌, [], true, List, ℕ, Option, None, Some, Result, Ok, length, map, IfOk, IfErr, OnOk, OnErr};
 ghost use Rattle.pm_model.specs.Answer.{longest_history};
-ghost use Rattle.pm_model.specs.Causes.{HasCause, HasKeepCause};
+ghost use Rattle.pm_model.specs.Causes.{HasCause, HasKeepCause, Rose};
 ghost use Rattle.pm_disk.specs.Disks.{Each, Leaves};
 ghost use Rattle.pm_journal.specs.Journals.{IsPiece, noted, StandsFor, StandsForAny, MayBeLost, written};
 ghost use Rattle.pm_journal.specs.Notes.{IsLine, Note, body, entry_of};
 ghost use Rattle.pm_journal.specs.Heads.{HasStood};
-ghost use Rattle.pm_journal.specs.Opens.{IsUnopened};
+ghost use Rattle.pm_journal.specs.Images.{Stands};
+ghost use Rattle.pm_journal.specs.declared.opened.OpenError.{OpenError};
+ghost use Rattle.pm_journal.specs.declared.opened.OpenError.TheVariants as open_fault;
+ghost use Rattle.pm_journal.specs.Opens.{ComesTo, IsUnopened, LeavesSynced, Tells};
 
 use crate::gates::{stage, turn};
 use crate::opened::{OpenError, opened};
@@ -56,12 +59,19 @@ pub struct Unopened<D: Disk + Drop> {
 
 impl<D: Disk + Drop> Journal<D> {
     /// The journal of a disk, and its entries: those that the disk stood for, none where it was empty. What stands behind them
-    /// is cut off. At any moment a crash leaves what it might have left before. Each error hands the disk back.
+    /// is cut off. What the bytes come to is told, but where the disk fails or there is no memory. At any moment a crash leaves
+    /// what it might have left before; and from the first sync on, what stands for the entries, whatever a crash might have left
+    /// before that. Each error hands the disk back.
     pub fn open(alloc: Global, disk: D) -> Result<(Journal<D>, ItemList<Entry>), Unopened<D>>
         ensures stood { D.tells ≡ true → IfOk result (λ r. HasStood r.0.kept (D.content disk)) }
         ensures entries { D.tells ≡ true → IfOk result (λ r. r.1 ≡ map entry_of r.0.kept) }
         ensures lost { IfOk result (λ r. r.0.lost ≡ None) }
         ensures unopened { D.tells ≡ true → IfErr result (λ u. IsUnopened (D.content disk) (D.content u.disk) u.why) }
+        ensures exactly { D.tells ≡ true → (out : Result (List Note) OpenError) → ComesTo (D.content disk) out → IfOk result (λ r. out ≡ Ok r.0.kept) }
+        ensures told { D.tells ≡ true → (out : Result (List Note) OpenError) → ComesTo (D.content disk) out → IfErr result (λ u. Tells out u.why) }
+        ensures failed { IfErr result (λ u. u.why ≡ open_fault.Failed → Rose (D.faults disk) (D.faults u.disk)) }
+        ensures synced { D.tells ≡ true → (notes : List Note) → Stands notes (D.content disk) → IfOk result (λ r. LeavesSynced D.moment D.left_since disk r.0.disk (Stands notes)) }
+        ensures err_synced { D.tells ≡ true → (notes : List Note) → Stands notes (D.content disk) → IfErr result (λ u. LeavesSynced D.moment D.left_since disk u.disk (Stands notes)) }
         ensures any_moment { D.tells ≡ true → (kept : List Note) (lost : Option Note) → Each (D.may_leave disk) (StandsFor kept lost) → IfOk result (λ r. Leaves D.moment D.left_since disk r.0.disk (StandsFor kept lost)) }
         ensures err_moment { D.tells ≡ true → (kept : List Note) (lost : Option Note) → Each (D.may_leave disk) (StandsFor kept lost) → IfErr result (λ u. Leaves D.moment D.left_since disk u.disk (StandsFor kept lost)) }
     {

@@ -1,13 +1,16 @@
 //! A journal as a keeper of what a desk accepts.
 
-ghost use Rattle.std.specs.Prelude.{◌≡◌, ◌≤◌, ◌+◌, ◌++◌, ◌∷◌, [], true, option_map, IfSome, OnOk, OnErr};
+ghost use Rattle.std.specs.Prelude.{◌≡◌, ◌<◌, ◌≤◌, ◌+◌, ◌++◌, ◌∷◌, [], true, ℕ, List, Option, length, option_map, IfSome, OnOk, OnErr};
 ghost use Rattle.pm_disk.specs.Disks.{Each, Leaves};
+ghost use Rattle.pm_model.specs.Asked.{asked};
 ghost use Rattle.pm_model.specs.Causes.{HasKeepCause, raised};
+ghost use Rattle.pm_print.specs.Askable.{asking};
 ghost use Rattle.pm_journal.specs.Kept.{IsRecovered, StandsForEntry, told_entries};
 
 use crate::journal::Journal;
 use crate::lines::line_of;
 use pm_disk::Disk;
+use pm_lines::{asked_is_askable, printed_is_no_longer};
 use pm_model::{Entry, Keep, KeepError, Memory};
 use std::alloc::Global;
 
@@ -16,7 +19,8 @@ const MOST: u64 = 262_144;
 /// Keeps entries in a journal. Contracts see the journal, and how often the keeper itself has refused an entry.
 ///
 /// An entry is refused, which counts as a fault and reaches no disk, where its line would have more than 8,192 bytes, or where
-/// no line asks for its request. No request that was read from a line is refused so.
+/// no line asks for its request; and where 262,144 are kept. No request that a line of at most 8,192 bytes asks for is refused so
+/// before that.
 pub struct Keeper<D: Disk + Drop> {
     alloc: Global,
     journal: Journal<D>,
@@ -80,6 +84,7 @@ impl<D: Disk + Drop> Keep for Keeper<D> {
         ensures ok { OnOk result (told_entries D.tells self.new.journal.kept ≡ option_map (λ entries. entries ++ entry.now ∷ []) (told_entries D.tells self.old.journal.kept)) }
         ensures err { OnErr result (told_entries D.tells self.new.journal.kept ≡ told_entries D.tells self.old.journal.kept) }
         ensures cause { HasKeepCause (D.faults self.old.journal.disk + self.old.refused) (D.faults self.new.journal.disk + self.new.refused) result }
+        ensures asked { (line : List ℕ) (id : Option ℕ) → asked line ≡ asking id entry.now.request → length line ≤ 8192 → self.old.journal.count < 262144 → self.new.refused ≡ self.old.refused }
         ensures any_moment { D.tells ≡ true → Leaves D.moment D.left_since self.old.journal.disk self.new.journal.disk (StandsForEntry self.old.journal.kept self.old.journal.lost entry.now) }
     {
         self.journal.stands();
@@ -87,6 +92,8 @@ impl<D: Disk + Drop> Keep for Keeper<D> {
             return Err(KeepError::Memory);
         };
         let Some(line) = line else {
+            asked_is_askable();
+            printed_is_no_longer();
             raise(&mut self.refused);
             return Err(KeepError::Failed);
         };

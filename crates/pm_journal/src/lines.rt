@@ -3,6 +3,7 @@
 ghost use Rattle.std.specs.Prelude.{◌≡◌, ◌≤◌, ◌++◌, [], None, codes, length, IfOk, IfSome};
 ghost use Rattle.pm_journal.specs.Notes.{IsLine, entry_of};
 ghost use Rattle.pm_journal.specs.Journals.{written};
+ghost use Rattle.pm_journal.specs.Refusals.{IsRefused};
 ghost use Rattle.pm_print.specs.Requested.{request_text};
 
 use crate::askable::is_askable;
@@ -26,6 +27,7 @@ fn printed(alloc: Global, request: &Request) -> Result<Vec<u8>, Memory>
 /// for the request.
 pub(crate) fn line_of(alloc: Global, entry: &Entry) -> Result<Option<Vec<u8>>, Memory>
     ensures line { IfOk result (λ o. IfSome o (λ line. IsLine line.items)) }
+    ensures refused { IfOk result (λ o. o ≡ None → IsRefused entry.now.request) }
     ensures entry { IfOk result (λ o. IfSome o (λ line. entry_of (written entry.now.seat entry.now.nth line.items) ≡ entry.now)) }
 {
     if !is_askable(&entry.request) {

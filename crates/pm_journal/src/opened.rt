@@ -2,11 +2,11 @@
 
 ghost use Rattle.std.specs.Prelude.{◌≡◌, ◌≤◌, ◌+◌, ◌*◌, true, List, ℕ, Option, length, take, IfOk, IfErr};
 ghost use Rattle.pm_disk.specs.Disks.{Each, Leaves};
-ghost use Rattle.pm_journal.specs.Images.{Rests};
+ghost use Rattle.pm_journal.specs.Images.{Rests, Stands};
 ghost use Rattle.pm_journal.specs.Reading.{AreRead};
 ghost use Rattle.pm_journal.specs.Heads.{HasStood};
 ghost use Rattle.pm_journal.specs.Journals.{kept_in, StandsFor};
-ghost use Rattle.pm_journal.specs.Opens.{IsUnopened, HasOpenCause, open_error};
+ghost use Rattle.pm_journal.specs.Opens.{IsUnopened, HasOpenCause, LeavesSynced, open_error};
 ghost use Rattle.pm_journal.specs.Notes.{Note};
 
 use crate::open::{Head, begin, look_at_head};
@@ -20,8 +20,8 @@ use std::alloc::Global;
 pub enum OpenError {
     /// The file has bytes, but no header with a byte behind it. Its content is as before.
     NotJournal,
-    /// At this place for a gate no byte stands; or one that isn't 0 and that no whole record with a byte behind it follows, or
-    /// behind 262,144 records. It is the first such place. The content is as before.
+    /// At this place for a gate stands a byte that isn't 0, and no whole record with a byte behind it follows, or 262,144 records
+    /// stand before it. It is the first such place. The content is as before.
     Damaged { at: u64 },
     /// The disk has failed, and has counted that.
     Failed,
@@ -50,7 +50,8 @@ fn why(unread: Unread) -> OpenError
 }
 
 // The entries of a file, and the place of the closed gate behind them, all of it on the disk. Where each image stood for some
-// notes, or these and one more, a crash at any moment leaves such a one.
+// notes, or these and one more, a crash at any moment leaves such a one; and where the content alone did, a crash from the first sync
+// on leaves what stands for the same.
 pub(crate) fn opened<D: Disk>(
     alloc: Global,
     disk: &mut D,
@@ -62,6 +63,7 @@ pub(crate) fn opened<D: Disk>(
     ensures end { IfOk result (λ r. r.1 ≤ 8 + 8209 * length r.0) }
     ensures unopened { D.tells ≡ true → IfErr result (IsUnopened (D.content disk.old) (D.content disk.new)) }
     ensures any_moment { D.tells ≡ true → (kept : List Note) (lost : Option Note) → Each (D.may_leave disk.old) (StandsFor kept lost) → Leaves D.moment D.left_since disk.old disk.new (StandsFor kept lost) }
+    ensures synced { D.tells ≡ true → (notes : List Note) → Stands notes (D.content disk.old) → LeavesSynced D.moment D.left_since disk.old disk.new (Stands notes) }
     ensures cause { HasOpenCause (D.faults disk.old) (D.faults disk.new) result }
 {
     disk.sync()?;

@@ -1,6 +1,6 @@
 //! Reading a journal back.
 
-ghost use Rattle.std.specs.Prelude.{◌≡◌, ◌≤◌, ◌^◌, ◌+◌, ◌*◌, ◌++◌, ◌∷◌, true, List, length, take, drop, get_or, IfOk, IfErr};
+ghost use Rattle.std.specs.Prelude.{◌≡◌, ◌<◌, ◌≤◌, ◌^◌, ◌+◌, ◌*◌, ◌++◌, ◌∷◌, true, List, length, take, drop, get_or, IfOk, IfErr};
 ghost use Rattle.pm_disk.specs.Disks.{Each, Leaves, Stays};
 ghost use Rattle.pm_journal.specs.Ends.{HasReadCause, IsNoDamage, IsDamaged, LeavesDamaged};
 ghost use Rattle.pm_journal.specs.Images.{Rests, Stands};
@@ -80,7 +80,8 @@ pub(crate) fn read_entries<D: Disk>(
     alloc: Global,
     disk: &mut D,
 ) -> Result<(ItemList<Entry>, u64), Unread>
-    requires { D.tells ≡ true → take 8 (D.content disk.old) ≡ header }
+    requires header { D.tells ≡ true → take 8 (D.content disk.old) ≡ header }
+    requires begun { D.tells ≡ true → 8 < length (D.content disk.old) }
     ensures read { D.tells ≡ true → IfOk result (λ r. AreRead r.1 (length r.0) (D.content disk.old) r.0) }
     ensures shut { D.tells ≡ true → IfOk result (λ r. get_or (D.content disk.old) r.1 1 ≡ 0) }
     ensures count { IfOk result (λ r. length r.0 ≤ 262144) }
@@ -112,6 +113,7 @@ pub(crate) fn read_entries<D: Disk>(
 /// off. At any moment a crash leaves the same entries.
 pub(crate) fn resume<D: Disk>(alloc: Global, disk: &mut D) -> Result<(ItemList<Entry>, u64), Unread>
     requires header { D.tells ≡ true → take 8 (D.content disk.old) ≡ header }
+    requires begun { D.tells ≡ true → 8 < length (D.content disk.old) }
     requires durable { D.tells ≡ true → Each (D.may_leave disk.old) (λ c. c ≡ D.content disk.old) }
     ensures notes { D.tells ≡ true → IfOk result (λ r. Stands (kept_in (length r.0) (take r.1 (D.content disk.new))) (D.content disk.old)) }
     ensures read { D.tells ≡ true → IfOk result (λ r. AreRead r.1 (length r.0) (D.content disk.new) r.0) }

@@ -134,7 +134,7 @@ distinct_rights ns h =
 name_given : (s : List ℕ) → Finds IsNamed (if_name s)
 name_given s = if_finds IsNamed (is_name s) (Some s) None (λ h. found IsNamed s h) (nothing IsNamed)
 
-name_read : (d : Data) → Finds IsNamed (name_form d)
+pub name_read : (d : Data) → Finds IsNamed (name_form d)
 name_read d = next Any IsNamed if_name (as_str d) (any (as_str d)) (λ s u. name_given s)
 
 short_given : (n : ℕ) → Finds IsShort (if_short n)
@@ -143,17 +143,17 @@ short_given n = if_finds IsShort (nat_lt n (2 ^ 32)) (Some n) None (λ h. found 
 short_read : (d : Data) → Finds IsShort (short_form d)
 short_read d = next Any IsShort if_short (whole_form d) (any (whole_form d)) (λ n u. short_given n)
 
-list_read : {A : Type 0} (P : A → Type 0) (form : Data → Option A) → ((d : Data) → Finds P (form d)) → (ds : Items) → Finds (Each P) (list_of form ds)
+pub list_read : {A : Type 0} (P : A → Type 0) (form : Data → Option A) → ((d : Data) → Finds P (form d)) → (ds : Items) → Finds (Each P) (list_of form ds)
 list_read P form reads no_items = found (Each P) [] tt
 list_read P form reads (item d ds) =
     next P (Each P) (λ x. option_map (λ xs. x ∷ xs) (list_of form ds)) (form d) (reads d)
     (λ x h. mapped (Each P) (Each P) (λ xs. x ∷ xs) (list_of form ds) (list_read P form reads ds) (λ xs hs. (h, hs)))
 
-array_read : {A : Type 0} (P : A → Type 0) (form : Data → Option A) → ((d : Data) → Finds P (form d)) → (d : Data) →
+pub array_read : {A : Type 0} (P : A → Type 0) (form : Data → Option A) → ((d : Data) → Finds P (form d)) → (d : Data) →
     Finds (Each P) (option_and_then (list_of form) (as_array d))
 array_read P form reads d = next Any (Each P) (list_of form) (as_array d) (any (as_array d)) (λ ds u. list_read P form reads ds)
 
-names_read : (d : Data) → Finds AreNamed (list_form d)
+pub names_read : (d : Data) → Finds AreNamed (list_form d)
 names_read d = array_read IsNamed name_form name_read d
 
 some_few : (ns : List (List ℕ)) → AreNamed ns → Finds AreListed (if_some_few ns)
@@ -166,7 +166,7 @@ some_few ns named =
 listed_read : (d : Data) → Finds AreListed (listed_form d)
 listed_read d = next AreNamed AreListed if_some_few (list_form d) (names_read d) some_few
 
-rights_read : (d : Data) → Finds AreRights (rights_form d)
+pub rights_read : (d : Data) → Finds AreRights (rights_form d)
 rights_read d = mapped AreListed AreRights distinct (listed_form d) (listed_read d) distinct_rights
 
 -- ---- subjects and patterns
@@ -185,10 +185,10 @@ module _ {N P : Type 0} (IsN : N → Type 0) (IsP : P → Type 0) (element : Dat
   subject_read None (Some a) (Some p) = nothing Is
   subject_read (Some u) (Some a) (Some p) = nothing Is
 
-abbrev IsCommandSubject : Subject (List ℕ) ℕ → Type 0
+abbrev pub IsCommandSubject : Subject (List ℕ) ℕ → Type 0
 IsCommandSubject s = IsSubject IsNamed IsShort s
 
-command_subject : (d : Data) → Finds IsCommandSubject (subject_form d)
+pub command_subject : (d : Data) → Finds IsCommandSubject (subject_form d)
 command_subject d = subject_read IsNamed IsShort name_form short_form name_read short_read (get (key_text key.User) d) (get (key_text key.Ua) d) (get (key_text key.Process) d)
 
 abbrev IsNamedIf : Option (List ℕ) → Type 0

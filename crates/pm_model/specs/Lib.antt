@@ -29,6 +29,7 @@ pub mod Results
 pub mod Reviews
 pub mod RightSet
 pub mod Sessions
+pub mod Sizes
 pub mod Solo
 pub mod State
 pub mod Text

@@ -1,5 +1,9 @@
 //! What the machine answers, and why it refuses.
 
+ghost use Rattle.std.specs.Prelude.{◌≡◌, ◌≤◌};
+ghost use Rattle.pm_model.specs.Answer.{longest_history};
+ghost use Rattle.pm_model.specs.Sizes.{limit_of};
+
 use crate::elements::ElementId;
 use crate::lines::BadLine;
 use crate::lists::UserList;
@@ -29,6 +33,25 @@ pub enum Table {
     Rights,
     /// 262,144 accepted entries.
     History,
+}
+
+impl Table {
+    /// How many there may be.
+    pub fn limit(self) -> u64
+        ensures value { result ≡ limit_of self }
+        ensures most { result ≤ longest_history }
+    {
+        match self {
+            Table::Elements | Table::Processes => 16384,
+            Table::Assignments => 131072,
+            Table::Associations => 65536,
+            Table::Prohibitions | Table::Sessions => 4096,
+            Table::Obligations => 1024,
+            Table::Reviews => 256,
+            Table::Rights => 64,
+            Table::History => 262144,
+        }
+    }
 }
 
 /// Why a capability is denied.

@@ -228,15 +228,15 @@ impl Procs {
         self.processes.share()
     }
 
-    /// How many sessions are live.
-    pub(crate) fn session_count(&self) -> usize
+    /// How many sessions are live: at most 4,096.
+    pub fn session_count(&self) -> usize
         ensures { result ≡ length self.now.procs.sessions }
     {
         self.sessions.len()
     }
 
-    /// How many processes are live.
-    pub(crate) fn process_count(&self) -> usize
+    /// How many processes are live: at most 16,384.
+    pub fn process_count(&self) -> usize
         ensures { result ≡ length self.now.procs.processes }
     {
         self.processes.len()

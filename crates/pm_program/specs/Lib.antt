@@ -1,2 +1,4 @@
 pub mod Generating
+pub mod Making
+pub mod Reading
 pub mod Said

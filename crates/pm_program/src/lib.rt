@@ -2,7 +2,9 @@
 #![tactic(auto)]
 
 mod generating;
+mod making;
 mod program;
+mod reading;
 mod saying;
 
 pub use program::top;

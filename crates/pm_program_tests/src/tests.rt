@@ -80,7 +80,24 @@ fn streams_of(
     })
 }
 
-// What `ngac run` does with the input.
+// What the program does with the input when it is called with this word.
+fn check_word(
+    rt: &(impl Threads + Abort + Alloc<A = Global> + Sync),
+    word: &str,
+    outside: &Outside<'_>,
+    input: &[u8],
+    status: Status,
+    output: &[u8],
+) -> Result<(), Fail> {
+    let mut streams = streams_of(rt.alloc(), outside, input)?;
+    let args = args(rt.alloc(), &[word])?;
+    assert_eq!(rt; called(rt, &mut streams, Ok(args)), status);
+    assert_eq!(rt; streams.out.taken(), output);
+    assert!(rt; streams.err.taken() == status.text().as_bytes());
+    Ok(())
+}
+
+// What `ngac run` does with it.
 fn check_run(
     rt: &(impl Threads + Abort + Alloc<A = Global> + Sync),
     outside: &Outside<'_>,
@@ -88,12 +105,7 @@ fn check_run(
     status: Status,
     output: &[u8],
 ) -> Result<(), Fail> {
-    let mut streams = streams_of(rt.alloc(), outside, input)?;
-    let args = args(rt.alloc(), &["run"])?;
-    assert_eq!(rt; called(rt, &mut streams, Ok(args)), status);
-    assert_eq!(rt; streams.out.taken(), output);
-    assert!(rt; streams.err.taken() == status.text().as_bytes());
-    Ok(())
+    check_word(rt, "run", outside, input, status, output)
 }
 
 const CALM: Outside<'static> = Outside {
@@ -133,31 +145,30 @@ fn a_name_is_taken_once(rt: HostRuntime) -> Result<(), Fail> {
     check_run(&rt, &CALM, &lines, Status::Done, &replies)
 }
 
+// The second read comes once the line is answered.
 #[test]
 fn failed_reads_end_the_run(rt: HostRuntime) -> Result<(), Fail> {
-    let (lines, replies) = twice(rt.alloc())?;
     let second = Outside {
         reads: &[2],
         ..CALM
     };
-    check_run(&rt, &second, &lines, Status::ReadFault, &replies)?;
+    check_run(&rt, &second, FILES, Status::ReadFault, DONE)?;
     let first = Outside {
         reads: &[1],
         ..CALM
     };
-    check_run(&rt, &first, &lines, Status::ReadFault, b"")
+    check_run(&rt, &first, FILES, Status::ReadFault, b"")
 }
 
 #[test]
 fn failed_writes_end_the_run(rt: HostRuntime) -> Result<(), Fail> {
-    let (lines, _) = twice(rt.alloc())?;
     let first = Outside {
         writes: &[1],
         ..CALM
     };
-    check_run(&rt, &first, &lines, Status::WriteFault, b"")?;
+    check_run(&rt, &first, FILES, Status::WriteFault, b"")?;
     let little_room = Outside { room: 5, ..CALM };
-    check_run(&rt, &little_room, &lines, Status::WriteFault, b"{\"id\"")
+    check_run(&rt, &little_room, FILES, Status::WriteFault, b"{\"id\"")
 }
 
 // A sink, and how many writes it was asked for.
@@ -249,7 +260,7 @@ fn a_run_stops_at_its_limit(rt: HostRuntime) -> Result<(), Fail> {
 }
 
 const USAGE: &str =
-    "usage: ngac run | ngac generate N | ngac serve PORT WORKERS | ngac serve-journal PORT WORKERS FILE\n";
+    "usage: ngac run | ngac generate N | ngac serve PORT WORKERS | ngac serve-journal PORT WORKERS FILE | ngac request-lines\n";
 
 fn calm(alloc: Global, room: usize) -> Result<Streams<CalmSource>, Memory> {
     Ok(Streams {
@@ -291,6 +302,7 @@ static OUTSIDE_THE_GRAMMAR: &[&[&str]] = &[
     &["serve-journal", "1", "2", "-kept"],
     &["serve-journal", "1", "2", "kept", "more"],
     &["serve-journal", "kept", "1", "2"],
+    &["request-lines", "x"],
     &["--help"],
 ];
 
@@ -379,6 +391,85 @@ fn a_summary_that_does_not_fit_is_told(rt: HostRuntime) -> Result<(), Fail> {
     Ok(())
 }
 
+// A document of two elements, of which the first is in the second, and the lines that make it.
+static WARD: &[u8] =
+    b"{\"rights\":[],\"elements\":[[\"ua\",\"staff\"],[\"pc\",\"ward\"]],\"assignments\":[[\"staff\",\"ward\"]],\"associations\":[],\"prohibitions\":[]}";
+
+static WARD_LINES: &[u8] =
+    b"{\"cmd\":\"create_pc\",\"name\":\"ward\",\"proc\":0}\n{\"cmd\":\"create_ua\",\"into\":\"ward\",\"name\":\"staff\",\"proc\":0}\n";
+
+static EMPTY: &[u8] =
+    b"{\"rights\":[],\"elements\":[],\"assignments\":[],\"associations\":[],\"prohibitions\":[]}";
+
+// No JSON, no lists, an element without a container, two that are in each other, and more behind a document.
+static REFUSED: &[&[u8]] = &[
+    b"",
+    b"{",
+    b"{}",
+    b"{\"rights\":[],\"elements\":[[\"ua\",\"staff\"]],\"assignments\":[],\"associations\":[],\"prohibitions\":[]}",
+    b"{\"rights\":[],\"elements\":[[\"ua\",\"a\"],[\"ua\",\"b\"]],\"assignments\":[[\"a\",\"b\"],[\"b\",\"a\"]],\"associations\":[],\"prohibitions\":[]}",
+    b"{\"rights\":[],\"elements\":[],\"assignments\":[],\"associations\":[],\"prohibitions\":[]}{}",
+];
+
+#[test]
+fn a_document_is_made(rt: HostRuntime) -> Result<(), Fail> {
+    for (input, lines) in [(WARD, WARD_LINES), (EMPTY, b"".as_slice())] {
+        check_word(&rt, "request-lines", &CALM, input, Status::Done, lines)?;
+    }
+    Ok(())
+}
+
+#[test]
+fn a_document_is_refused(rt: HostRuntime) -> Result<(), Fail> {
+    for input in REFUSED {
+        check_word(
+            &rt,
+            "request-lines",
+            &CALM,
+            input,
+            Status::DocumentRefused,
+            b"",
+        )?;
+    }
+    Ok(())
+}
+
+// The second read would tell the end.
+#[test]
+fn a_document_that_cannot_be_read_is_not_made(rt: HostRuntime) -> Result<(), Fail> {
+    for reads in [&[1], &[2]] {
+        let failing = Outside { reads, ..CALM };
+        check_word(&rt, "request-lines", &failing, WARD, Status::ReadFault, b"")?;
+    }
+    Ok(())
+}
+
+#[test]
+fn lines_that_do_not_fit_are_told(rt: HostRuntime) -> Result<(), Fail> {
+    let first = Outside {
+        writes: &[1],
+        ..CALM
+    };
+    check_word(&rt, "request-lines", &first, WARD, Status::WriteFault, b"")?;
+    check_word(
+        &rt,
+        "request-lines",
+        &first,
+        b"{}",
+        Status::DocumentRefused,
+        b"",
+    )?;
+    let little_room = Outside { room: 5, ..CALM };
+    check_word(
+        &rt,
+        "request-lines",
+        &little_room,
+        WARD,
+        Status::WriteFault,
+        b"{\"cmd",
+    )
+}
+
 // Where the words can't be had the run ends so.
 fn check_no_words(
     rt: &(impl Threads + Abort + Alloc<A = Global> + Sync),
@@ -438,6 +529,7 @@ static STATUSES: &[(Status, u8, &str)] = &[
     (Status::ListenFault, 7, "ngac: listen failed\n"),
     (Status::JournalFault, 8, "ngac: journal failed\n"),
     (Status::NotJournal, 9, "ngac: not a journal\n"),
+    (Status::DocumentRefused, 10, "ngac: document refused\n"),
     (Status::ServeFault, 11, "ngac: serving failed\n"),
 ];
 

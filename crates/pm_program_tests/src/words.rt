@@ -95,6 +95,15 @@ serve-journals,80,1,kept
 serve-,80,1,kept
 serve,80,1,kept
 serve,journal,80,1,kept
+request-lines,x
+request-lines,
+request-lines,1
+request-lines,--
+request_lines
+request-line
+Request-lines
+request,lines
+run,request-lines
 80,1
 PORT,WORKERS
 help
@@ -139,6 +148,10 @@ fn asked_by(alloc: Global, line: &str) -> Result<Option<Asked>, Memory> {
 fn words_in_the_grammar(rt: HostRuntime) -> Result<(), Fail> {
     let alloc = rt.alloc();
     assert_eq!(rt; asked_by(alloc, "run")?, Some(Asked::Run));
+    assert_eq!(rt;
+        asked_by(alloc, "request-lines")?,
+        Some(Asked::RequestLines)
+    );
     for (line, size) in [
         ("generate,1", 1),
         ("generate,30", 30),
@@ -195,7 +208,7 @@ fn words_with_a_file(rt: HostRuntime) -> Result<(), Fail> {
 #[test]
 fn words_without_a_file(rt: HostRuntime) -> Result<(), Fail> {
     let alloc = rt.alloc();
-    for line in ["run", "generate,3", "serve,80,1"] {
+    for line in ["run", "generate,3", "serve,80,1", "request-lines"] {
         assert!(rt; file_by(alloc, line)?.is_none(), "{line}");
     }
     for line in OUTSIDE.lines() {

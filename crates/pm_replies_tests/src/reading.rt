@@ -1,5 +1,5 @@
 //! Lines of replies that are read and printed again, and lines that no reply has.
-use pm_print::print_reply;
+use pm_print::{longest, print_reply};
 use pm_replies::{RefusalText, ReplyError, ReplyLine, ReplyText, read_reply, with_numbers};
 use std::alloc::{AllocError, Global};
 use std::process::Abort;
@@ -65,6 +65,18 @@ static REFUSALS: &[&str] = &[
     r#"{"action":32,"no":"response_refused","obligation":"a","v":16,"why":"unknown_name"}"#,
     r#"{"action":2,"no":"response_refused","obligation":"a","v":16,"why":"denied"}"#,
     r#"{"action":2,"no":"response_refused","obligation":"a","v":16,"why":"full"}"#,
+    r#"{"action":3,"no":"response_refused","obligation":"a","v":16,"why":"unknown_process"}"#,
+    r#"{"action":3,"no":"response_refused","obligation":"a","v":16,"why":"unknown_session"}"#,
+    r#"{"action":3,"no":"response_refused","obligation":"a","v":16,"why":"unknown_review"}"#,
+    r#"{"action":3,"no":"response_refused","obligation":"a","v":16,"why":"bad_kinds"}"#,
+    r#"{"action":3,"no":"response_refused","obligation":"a","v":16,"why":"name_taken"}"#,
+    r#"{"action":3,"no":"response_refused","obligation":"a","v":16,"why":"absent"}"#,
+    r#"{"action":3,"no":"response_refused","obligation":"a","v":16,"why":"cycle"}"#,
+    r#"{"action":3,"no":"response_refused","obligation":"a","v":16,"why":"occupied"}"#,
+    r#"{"action":3,"no":"response_refused","obligation":"a","v":16,"why":"in_use"}"#,
+    r#"{"action":3,"no":"response_refused","obligation":"a","v":16,"why":"last_container"}"#,
+    r#"{"action":3,"no":"response_refused","obligation":"a","v":16,"why":"builtin"}"#,
+    r#"{"action":3,"no":"response_refused","obligation":"a","v":16,"why":"empty_range"}"#,
 ];
 
 // Lines of no reply.
@@ -146,6 +158,7 @@ fn printed(rt: &(impl Abort + Alloc<A = Global>), said: &ReplyLine) -> Result<Ve
     let told = with_numbers(rt.alloc(), &said.text)?;
     let mut out = Vec::new(rt.alloc());
     print_reply(said.id, said.version, &told.reply, &told.names, &mut out)?;
+    assert!(rt; out.len() <= longest(&told.reply));
     assert!(rt; out.pop() == Some(b'\n'));
     Ok(out)
 }

@@ -1,12 +1,13 @@
 -- Two lists walked through together: the changes so far are those of all numbers below the ones that are left.
-use Rattle.std.proofs.Common.{◌≡◌, ◌≢◌, ℕ, zero, suc, ◌+◌, ◌<◌, ◌≤◌, ◌==◌, max, min, Bool, true, false, not, List, [], ◌∷◌, ◌++◌, length, map, filter, find, bytes_eq, if◌then◌else◌, Option, None, Some, OnSome, unwrap_or, IsTrue, All, refl, sym, ◌∙◌, ap, inl, inr, arith, ne_eqb, eq-eqb}
-use Rattle.std.proofs.lemmas.List.{append-nil}
+use Rattle.std.proofs.Common.{◌≡◌, ◌≢◌, ℕ, zero, suc, ◌+◌, ◌<◌, ◌≤◌, ◌==◌, max, min, Bool, true, false, not, List, [], ◌∷◌, ◌++◌, length, drop, map, filter, find, bytes_eq, if◌then◌else◌, Option, None, Some, OnSome, unwrap_or, IsTrue, All, refl, sym, ◌∙◌, ap, inl, inr, arith, ne_eqb, eq-eqb}
+use Rattle.std.proofs.lemmas.List.{append-nil, length-drop}
 use Rattle.std.proofs.lemmas.Bool.{eqb-true, eqb-false, cases_lt}
-use Rattle.std.proofs.lemmas.List.Elements.{All-head, All-tail}
+use Rattle.std.proofs.lemmas.List.Elements.{All-head, All-tail, All-drop}
+use Rattle.std.proofs.lemmas.Slice.Eq.{bytes_eq-Decides}
 use Rattle.pm_model.specs.LastChanges.{changed, differs, is_of, rights_listed, above, changes_at, changes_below, changes_between}
 use Rattle.pm_model.specs.declared.reviews.Changed.{Changed}
 use Rattle.pm_model.specs.declared.reviews.Pair.{Pair}
-use Rattle.pm_review.specs.Rising.{RiseFrom, PairsRiseFrom, AllAlike, AllNamed}
+use Rattle.pm_review.specs.Rising.{AreSame, RiseFrom, PairsRiseFrom, AllAlike, AllNamed}
 use Rattle.pm_review.specs.Steps.{lowest, first_rights, after_first, changes_of}
 
 -- ---- one list
@@ -91,6 +92,15 @@ first-alike was is n ps h = first-all (λ n. was n ≡ is n) n ps h
 
 pub after-alike : (was is : ℕ → List ℕ) (n : ℕ) (ps : List Pair) → AllAlike was is ps → AllAlike was is (after_first n ps)
 after-alike was is n ps h = after-all (λ n. was n ≡ is n) n ps h
+
+pub dropped-named : (named : ℕ → Bool) (n : ℕ) (ps : List Pair) → AllNamed named ps → AllNamed named (drop n ps)
+dropped-named named n ps h = All-drop (λ (p : Pair). IsTrue (named p.element)) n ps h
+
+pub dropped-alike : (was is : ℕ → List ℕ) (n : ℕ) (ps : List Pair) → AllAlike was is ps → AllAlike was is (drop n ps)
+dropped-alike was is n ps h = All-drop (λ (p : Pair). was p.element ≡ is p.element) n ps h
+
+pub dropped-shorter : (n : ℕ) (ps : List Pair) → length (drop n ps) ≤ length ps
+dropped-shorter n ps = rw (length-drop n ps) (omega arith)
 
 -- ---- the lowest number of two lists
 
@@ -198,6 +208,35 @@ module _ (was is : ℕ → List ℕ) (old new : List Pair) where
       of_old = rest-next w.next n old ps w.of_old lowest-here.least lowest-here.old;
       of_new = rest-next w.next n new qs w.of_new lowest-here.least lowest-here.new;
     }
+
+  no-change : (n rights : ℕ) → was n ≡ is n → changes_of (was n) (is n) rights rights ≡ []
+  no-change n rights alike = rw (alike, (bytes_eq-Decides (is n) (is n)).1 refl, eq-eqb rights rights refl) refl
+
+  -- a pair with which both begin tells of no change, where its number has one name
+  walked-past : (list : List Changed) (p : Pair) (ps qs : List Pair) → Walked list (p ∷ ps) (p ∷ qs) → was p.element ≡ is p.element → Walked list ps qs
+  walked-past list p ps qs w alike =
+      let here : (p.element == p.element) ≡ true = eq-eqb p.element p.element refl in
+      let first : Some p.element ≡ lowest (p ∷ ps) (p ∷ qs) = ap (λ n. Some n) (omega arith) in
+      rw here at (walked-next list list (p ∷ ps) (p ∷ qs) p.element w first
+      (rw here (rw (no-change p.element p.rights alike) (sym (append-nil list)))))
+
+  -- nor do more such pairs
+  pub walked-same : (list : List Changed) (n : ℕ) (ps qs : List Pair) → Walked list ps qs → AllAlike was is ps → n ≤ length ps → n ≤ length qs →
+      AreSame n ps qs → Walked list (drop n ps) (drop n qs)
+  walked-same list zero ps qs w alike a b same = w
+  walked-same list (suc n) [] qs w alike a b same = absurd (omega (arith, a))
+  walked-same list (suc n) (p ∷ ps) [] w alike a b same = absurd (omega (arith, b))
+  walked-same list (suc n) (p ∷ ps) (q ∷ qs) w alike a b same =
+      let is_one : Some p ≡ Some q = same 0 (omega arith) in
+      let one : q ≡ p = cc in
+      walked-same list n ps qs (walked-past list p ps qs (rw one at w) (All-head (λ (p : Pair). was p.element ≡ is p.element) p ps alike))
+      (All-tail (λ (p : Pair). was p.element ≡ is p.element) p ps alike) (omega (arith, a)) (omega (arith, b)) (λ k below. same (suc k) (omega (arith, below)))
+
+  -- as many as tell of no change, which are none unless names stay
+  pub walked-unchanged : (list : List Changed) (n : ℕ) (ps qs : List Pair) → Walked list ps qs → (0 < n → AllAlike was is ps) → n ≤ length ps → n ≤ length qs →
+      AreSame n ps qs → Walked list (drop n ps) (drop n qs)
+  walked-unchanged list zero ps qs w alike a b same = w
+  walked-unchanged list (suc n) ps qs w alike a b same = walked-same list (suc n) ps qs w (alike (omega arith)) a b same
 
   pub walked-all : (list : List Changed) (ps qs : List Pair) → Walked list ps qs → None ≡ lowest ps qs → list ≡ changes_between was is old new
   walked-all list ps qs w e = w.so_far ∙ meet w.next (max (above old) (above new)) refl refl where

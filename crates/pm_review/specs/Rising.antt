@@ -1,5 +1,5 @@
 -- Lists by rising number.
-use Rattle.std.specs.Prelude.{◌≡◌, ℕ, ◌+◌, ◌≤◌, Bool, List, [], ◌∷◌, map, IsTrue, All}
+use Rattle.std.specs.Prelude.{◌≡◌, ℕ, ◌+◌, ◌≤◌, ◌<◌, Bool, List, [], ◌∷◌, map, slice_get, IsTrue, All}
 use Rattle.pm_model.specs.declared.reviews.Pair.{Pair}
 
 -- the numbers rise, and the first is at least `low`
@@ -18,3 +18,7 @@ AllNamed named list = All (λ (p : Pair). IsTrue (named p.element)) list
 -- each number has one name, by the one and by the other
 abbrev pub AllAlike : (ℕ → List ℕ) → (ℕ → List ℕ) → List Pair → Type 0
 AllAlike was is list = All (λ (p : Pair). was p.element ≡ is p.element) list
+
+-- the first n pairs of both are the same
+abbrev pub AreSame : ℕ → List Pair → List Pair → Type 0
+AreSame n ps qs = (k : ℕ) → k < n → slice_get ps k ≡ slice_get qs k

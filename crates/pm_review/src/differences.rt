@@ -1,8 +1,8 @@
 //! What differs between two lists, of elements that may have gone, come or changed their rights.
 
-ghost use Rattle.std.specs.Prelude.{◌≡◌, ◌++◌, ◌∷◌, [], filter, bytes_eq, unwrap_or, IfOk, OnOk, OnSome, IsTrue};
+ghost use Rattle.std.specs.Prelude.{◌≡◌, ◌<◌, ◌≤◌, ◌++◌, ◌∷◌, [], length, drop, filter, bytes_eq, unwrap_or, IfOk, OnOk, OnSome, IsTrue};
 ghost use Rattle.pm_model.specs.LastChanges.{changed, differs, changes_between};
-ghost use Rattle.pm_review.specs.Rising.{PairsRiseFrom, AllAlike, AllNamed};
+ghost use Rattle.pm_review.specs.Rising.{AreSame, PairsRiseFrom, AllAlike, AllNamed};
 ghost use Rattle.pm_review.specs.declared.differences.Names.{Names};
 ghost use Rattle.pm_review.specs.Steps.{lowest, first_rights, after_first, changes_of};
 
@@ -127,7 +127,41 @@ fn push_changes<B: NameOf, A: NameOf>(
     }
 }
 
-/// Walks through both lists together.
+/// How many pairs both lists begin with that are the same.
+fn begin_alike(old: &[Pair], new: &[Pair]) -> usize
+    ensures old { result ≤ length old.now }
+    ensures new { result ≤ length new.now }
+    ensures same { AreSame result old.now new.now }
+{
+    let mut n = 0;
+    while n < old.len() && n < new.len() && old[n] == new[n] {
+        n += 1;
+    }
+    n
+}
+
+/// How many pairs at the beginning of both lists tell of no change: those that are the same, where names stay.
+fn unchanged(names: Names, old: &[Pair], new: &[Pair]) -> usize
+    ensures old { result ≤ length old.now }
+    ensures new { result ≤ length new.now }
+    ensures same { AreSame result old.now new.now }
+    ensures names { 0 < result → names ≡ Names.Stay }
+{
+    match names {
+        Names::MayChange => 0,
+        Names::Stay => begin_alike(old, new),
+    }
+}
+
+/// What comes after so many pairs.
+fn skip(list: &[Pair], n: usize) -> &[Pair]
+    requires { n ≤ length list.now }
+    ensures { result.now ≡ drop n list.now }
+{
+    &list[n..]
+}
+
+/// Walks through both lists together. Where names stay, pairs that are the same in both are passed by behind the first.
 fn walk<B: NameOf, A: NameOf>(
     names: Names,
     before: &B,
@@ -151,6 +185,9 @@ fn walk<B: NameOf, A: NameOf>(
         push_changes(&mut list, names, before, after, id, was, is)?;
         old_rest = after_first(old_rest, id);
         new_rest = after_first(new_rest, id);
+        let n = unchanged(names, old_rest, new_rest);
+        old_rest = skip(old_rest, n);
+        new_rest = skip(new_rest, n);
     }
     Ok(list)
 }

@@ -10,8 +10,8 @@ ghost use Rattle.pm_affect.specs.Right.{AreAmong, AreGiven};
 
 use pm_affect::*;
 use pm_model::{
-    Change, ElementId, Judge, Kind, Memory, Mode, Name, Pair, PairList, PlaceList, Prohibition,
-    Reach, ReviewOf, Rights, Subject,
+    Change, ElementId, Judge, Memory, Mode, Name, Pair, PairList, PlaceList, Prohibition, Reach,
+    ReviewOf, Rights, Subject,
 };
 use std::alloc::Global;
 use std::process::Abort;
@@ -178,15 +178,6 @@ fn staff_has_right(rt: &impl Abort, lists: &KeptLists) {
 }
 
 #[test]
-fn an_association_touches_lists(rt: HostRuntime) -> Result<(), Fail> {
-    let lists = kept(rt.alloc())?;
-    let mut reach = Words { words: &WORDS };
-    assert!(rt; touches(&lists, &Region::Between(STAFF, DOCS), &mut reach));
-    assert!(rt; !touches(&lists, &Region::Between(ElementId(2), STAFF), &mut reach));
-    Ok(())
-}
-
-#[test]
 fn an_association_comes_and_goes(rt: HostRuntime) -> Result<(), Fail> {
     let region = Region::Between(STAFF, DOCS);
     let lists = kept(rt.alloc())?;
@@ -237,23 +228,7 @@ fn region_is(rt: &impl Abort, change: Change, wanted: (&'static str, u32, u32)) 
     assert_eq!(rt; told(&region), wanted);
 }
 
-const X: ElementId = ElementId(7);
-
 const Y: ElementId = ElementId(4);
-
-#[test]
-fn regions_of_elements(rt: HostRuntime) {
-    let change = Change::Create {
-        id: X,
-        kind: Kind::User,
-        name: Name::new(b"new").expect(&rt, "a name"),
-        into: Some(Y),
-    };
-    region_is(&rt, change, ("one", 7, 0));
-    region_is(&rt, Change::Delete { id: X }, ("one", 7, 0));
-    region_is(&rt, Change::Assign { from: X, to: Y }, ("under", 7, 0));
-    region_is(&rt, Change::Deassign { from: X, to: Y }, ("under", 7, 0));
-}
 
 #[test]
 fn regions_of_rights(rt: HostRuntime) {
@@ -270,27 +245,4 @@ fn regions_of_rights(rt: HostRuntime) {
     );
     let item = bar(&rt, Subject::Ua(Y), rt.alloc()).expect(&rt, "memory");
     region_is(&rt, Change::Prohibit { item }, ("barred", 4, 1));
-}
-
-#[test]
-fn changes_that_give_no_rights(rt: HostRuntime) {
-    let name = Name::new(b"new").expect(&rt, "a name");
-    let nothing = ("nothing", 0, 0);
-    region_is(&rt, Change::Lift { index: 0 }, nothing);
-    region_is(&rt, Change::OpenSession { user: X }, nothing);
-    region_is(&rt, Change::EndProcess { process: 3 }, nothing);
-    region_is(&rt, Change::DefineRight { name }, nothing);
-    region_is(&rt, Change::Keep { of: ANN }, nothing);
-    region_is(&rt, Change::DropReview { review: 0 }, nothing);
-}
-
-#[test]
-fn the_lift_of_a_bar_on_a_process_asks_nothing(rt: HostRuntime) -> Result<(), Fail> {
-    let lifted = bar(&rt, Subject::Process(3), rt.alloc())?;
-    let region = Region::of(&Change::Lift { index: 0 }, Some(&lifted))?;
-    assert_eq!(rt; told(&region), ("barred", 3, 2));
-    let lists = kept(rt.alloc())?;
-    let lists = repair(&rt, lists, &region, &WORDS, Rights(0), Rights(0), 0)?;
-    none_has_rights(&rt, &lists);
-    Ok(())
 }

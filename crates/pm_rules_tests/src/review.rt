@@ -104,33 +104,6 @@ fn rights_of_several_users_are_counted(rt: HostRuntime) -> Result<(), Fail> {
     Ok(())
 }
 
-#[test]
-fn rights_of_no_user_are_counted(rt: HostRuntime) -> Result<(), Fail> {
-    let elements = places(rt.alloc(), &[2, 4, 5, 11])?;
-    let none = counts_of(&rt, &elements, &UserList::new(rt.alloc()))?;
-    assert!(rt; none.len() == 0);
-    Ok(())
-}
-
-/// The numbers below this one.
-fn places_below(alloc: Global, count: u32) -> Result<PlaceList, Memory> {
-    let mut list = PlaceList::new(alloc);
-    for number in 0..count {
-        list.push(ElementId(number))?;
-    }
-    Ok(list)
-}
-
-/// The numbers up to 4,095 have 24,576 ones in base 2, twelve of them in 4,095.
-#[test]
-fn many_pairs_are_counted_by_many_threads(rt: HostRuntime) -> Result<(), Fail> {
-    let elements = places_below(rt.alloc(), 4_096)?;
-    let users = places(rt.alloc(), &[0, 4_096, 1, 4_094])?;
-    let counts = counts_of(&rt, &elements, &users)?;
-    counts_are(&rt, &counts, &[24_576, 0, 24_564, 1]);
-    Ok(())
-}
-
 /// Names, of which number 5 has one of its own.
 #[derive(Drop)]
 struct Names {
@@ -204,16 +177,6 @@ fn what_differs_between_two_lists(rt: HostRuntime) -> Result<(), Fail> {
         change(after.fifth, 0, 1),
     ];
     changes_are(&rt, &list, &want);
-    Ok(())
-}
-
-#[test]
-fn nothing_differs_between_a_list_and_itself(rt: HostRuntime) -> Result<(), Fail> {
-    let names = names_with(&rt, "is");
-    let pairs = [pair(2, 8), pair(4, 1), pair(5, 1), pair(9, 7)];
-    let list = list_of(rt.alloc(), &pairs)?;
-    let none = changes(&names, &names, &list, &list)?;
-    assert!(rt; none.len() == 0);
     Ok(())
 }
 

@@ -2,7 +2,7 @@
 use Rattle.std.specs.Prelude.{ℕ, List, [], ◌++◌, Option, Some, None, codes, decimal, if◌then◌else◌, length, nat_lt}
 use Rattle.std.specs.Option.{option_map_or}
 use Rattle.pm_run.specs.declared.statuses.Status.{Status}
-use Rattle.pm_run.specs.declared.statuses.Status.TheVariants.{Done, Usage, ReadFault, WriteFault, Memory, TooMuch, Serve, ListenFault, ServeFault, ServeJournal, JournalFault, NotJournal, Damaged, Illegal}
+use Rattle.pm_run.specs.declared.statuses.Status.TheVariants.{Done, Usage, ReadFault, WriteFault, Memory, TooMuch, Serve, ListenFault, ServeFault, ServeJournal, JournalFault, NotJournal, Damaged, Illegal, DocumentRefused}
 
 -- the number that the process ends with
 abbrev pub status_number : Status → ℕ
@@ -20,11 +20,12 @@ status_number JournalFault = 8
 status_number NotJournal = 9
 status_number (Damaged at) = 9
 status_number (Illegal at) = 9
+status_number DocumentRefused = 10
 
 -- what is said on `err`, before the place
 abbrev pub status_text : Status → List ℕ
 status_text Done = []
-status_text Usage = codes "usage: ngac run | ngac generate N | ngac serve PORT WORKERS | ngac serve-journal PORT WORKERS FILE\n"
+status_text Usage = codes "usage: ngac run | ngac generate N | ngac serve PORT WORKERS | ngac serve-journal PORT WORKERS FILE | ngac request-lines\n"
 status_text ReadFault = codes "ngac: read failed\n"
 status_text WriteFault = codes "ngac: write failed\n"
 status_text Memory = codes "ngac: out of memory\n"
@@ -37,6 +38,7 @@ status_text JournalFault = codes "ngac: journal failed\n"
 status_text NotJournal = codes "ngac: not a journal\n"
 status_text (Damaged at) = codes "ngac: journal damaged at "
 status_text (Illegal at) = codes "ngac: journal illegal at "
+status_text DocumentRefused = codes "ngac: document refused\n"
 
 -- the place in a journal
 abbrev pub status_place : Status → Option ℕ

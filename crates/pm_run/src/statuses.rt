@@ -31,6 +31,8 @@ pub enum Status {
     Damaged { at: u64 },
     /// The journal's entry of this number, counted from 0, isn't one that could come in its place.
     Illegal { at: u64 },
+    /// The input is no policy document, or an unsound one.
+    DocumentRefused,
 }
 
 impl Status {
@@ -51,6 +53,7 @@ impl Status {
             Status::ListenFault => 7,
             Status::JournalFault => 8,
             Status::NotJournal | Status::Damaged { .. } | Status::Illegal { .. } => 9,
+            Status::DocumentRefused => 10,
             Status::ServeFault => 11,
         }
     }
@@ -62,7 +65,7 @@ impl Status {
         match self {
             Status::Done | Status::Serve { .. } | Status::ServeJournal { .. } => "",
             Status::Usage => {
-                "usage: ngac run | ngac generate N | ngac serve PORT WORKERS | ngac serve-journal PORT WORKERS FILE\n"
+                "usage: ngac run | ngac generate N | ngac serve PORT WORKERS | ngac serve-journal PORT WORKERS FILE | ngac request-lines\n"
             }
             Status::ReadFault => "ngac: read failed\n",
             Status::WriteFault => "ngac: write failed\n",
@@ -74,6 +77,7 @@ impl Status {
             Status::NotJournal => "ngac: not a journal\n",
             Status::Damaged { .. } => "ngac: journal damaged at ",
             Status::Illegal { .. } => "ngac: journal illegal at ",
+            Status::DocumentRefused => "ngac: document refused\n",
         }
     }
 

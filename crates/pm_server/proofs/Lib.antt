@@ -1,2 +1,3 @@
 pub mod KeyBits
 pub mod Polling
+pub mod Staying

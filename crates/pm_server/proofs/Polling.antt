@@ -6,10 +6,10 @@ use Rattle.slab.specs.Slab.{Slab, get, Updates}
 use Rattle.pm_server.specs.KeySets.{HasKey, HasTaken}
 use Rattle.pm_server.specs.Polled.{Polled, IsFirst, GoesOut, TakesOut, TakesNone}
 
-no-some : {A : Type 0} (o : Option A) (x : A) → o ≡ Some x → o ≡ None → ⊥
+pub no-some : {A : Type 0} (o : Option A) (x : A) → o ≡ Some x → o ≡ None → ⊥
 no-some o x some none = let both : None ≡ Some x = sym none ∙ some in absurd (cc both)
 
-abbrev value : {A : Type 0} → A → Option A → A
+abbrev pub value : {A : Type 0} → A → Option A → A
 value d None = d
 value d (Some x) = x
 

@@ -1,6 +1,8 @@
 -- What is known of a feed of polled connections. The project's own.
-use Rattle.std.specs.Prelude.{ℕ, ◌≡◌, ◌≤◌, ◌<◌, ◌+◌, Bool, Option, Some, None, IfSome}
+use Rattle.std.specs.Prelude.{ℕ, ◌≡◌, ◌≤◌, ◌<◌, ◌+◌, ◌-◌, ◌*◌, Bool, Option, Some, None, IfSome}
+use mathlib.Core.Logic.{◌⊎◌}
 use Rattle.slab.specs.Slab.{Slab, slab_len, get, Updates}
+use Rattle.pm_handoff.specs.Ends.{End}
 use Rattle.pm_worker.specs.Feeding.{count_out}
 use Rattle.pm_worker.specs.declared.turns.Turn.{Turn}
 use Rattle.pm_worker.specs.declared.turns.Turn.TheVariants.{Idle, More}
@@ -8,7 +10,8 @@ use Rattle.pm_server.specs.KeySets.{KeySet, HasKey, HasAdded, HasTaken}
 
 -- the connections, each at its key, but for the one that is out, whose key is the vacant one; the keys of those that are to
 -- have a turn in this round, and in the next; the number of the one that is out; whether it has said that there are no more,
--- whether polling has failed, and whether the server is at its end
+-- whether polling has failed, and whether the server is at its end; the end of the hand-off that its connections
+-- come by; and the time of this round, in nanoseconds
 pub record Polled (A : Type 0) : Type 0 where
   pub conns : Slab A
   pub round : KeySet
@@ -17,6 +20,8 @@ pub record Polled (A : Type 0) : Type 0 where
   pub stopped : Bool
   pub failed : Bool
   pub over : Bool
+  pub taker : End
+  pub time : ℕ
 
 -- there are 1,024 places, of which the one that is out keeps its own
 pub record HasPlaces {A : Type 0} (out : Option ℕ) (conns : Slab A) : Type 0 where
@@ -63,3 +68,13 @@ abbrev pub TakesBack : {A C : Type 0} → Polled A → Polled A → Turn → C �
 TakesBack f g Idle conn conn_of = IsBack f g conn conn_of × (g.later ≡ f.later)
 TakesBack f g More conn conn_of = IsBack f g conn conn_of × HasAdded f.later g.later f.conns.vacant_key
 TakesBack f g _ conn conn_of = (g.conns ≡ f.conns) × (g.later ≡ f.later)
+
+-- there was no turn since then for 60 seconds
+abbrev pub IsSilent : ℕ → ℕ → Type 0
+IsSilent now since = 60 * 1_000_000_000 ≤ now - since
+
+-- each connection that rested does so still, but for those that have come to be silent
+pub record Stays {A : Type 0} (since_of : A → ℕ) (f g : Polled A) : Type 0 where
+  pub later : f.time ≤ g.time
+  pub place : g.taker.place ≡ f.taker.place
+  pub rests : (key : ℕ) (rest : A) → get f.conns key ≡ Some rest → (get g.conns key ≡ Some rest) ⊎ IsSilent g.time (since_of rest)

@@ -5,6 +5,7 @@ ghost use Rattle.pm_server.specs.Listening.{IsLocal};
 use crate::arrivals::Arrival;
 use crate::doors::Door;
 use crate::errors::OpenError;
+use crate::filling::tell_of;
 use crate::notices::{Closed, Notices};
 use crate::watch::Watch;
 use mio::net::TcpListener;
@@ -104,7 +105,8 @@ impl Entrance {
     }
 
     /// Leaves each connection that comes at the door of the worker with the most room, and closes it where none has any,
-    /// of which it tells once a minute at most. It goes on until the server is at its end, or has nothing to wait by.
+    /// of which it tells once a minute at most. It tells of each table, once, that a worker has seen nearly full. It goes on
+    /// until the server is at its end, or has nothing to wait by.
     pub fn accept_all<R: Wait + Clock, N: Notices>(
         &mut self,
         rt: &R,
@@ -114,10 +116,14 @@ impl Entrance {
     ) {
         let mut number = 0u64;
         let mut closed = Closed::new();
+        let mut told = 0;
         for _ in rt.forever() {
             if watch.is_over() {
                 return;
             }
+            let full = watch.nearly_full();
+            tell_of(notices, full & !told);
+            told = full;
             match self.listener.accept() {
                 Ok((stream, _from)) => {
                     if !place(rt, watch, doors, Arrival { number, stream }) {

@@ -1,6 +1,6 @@
 //! A worker's door: where the acceptor leaves connections for it.
 
-ghost use Rattle.std.specs.Prelude.{◌≡◌, None, IfOk};
+ghost use Rattle.std.specs.Prelude.{◌≡◌, ◌++◌, ◌∷◌, [], None, IfErr, IfOk, OnErr, OnOk};
 
 use crate::arrivals::Arrival;
 use crate::errors::OpenError;
@@ -73,7 +73,11 @@ impl Door {
         &mut self,
         rt: &R,
         arrival: Arrival,
-    ) -> Result<(), Refused<Arrival>> {
+    ) -> Result<(), Refused<Arrival>>
+        ensures given { OnOk result (self.new ≡ record self.old { given = self.old.given ++ arrival.number ∷ [] }) }
+        ensures back { IfErr result (λ refused. refused ≡ Refused.Full arrival) }
+        ensures same { OnErr result (self.new ≡ self.old) }
+    {
         let given = self.queue.give(rt, &mut self.giver, arrival);
         self.wake();
         given
@@ -91,7 +95,8 @@ pub fn open_gateway<'a, R: Wait + Net + Clock>(
     alloc: Global,
     watch: &'a Watch,
 ) -> Result<Gateway<'a, R>, OpenError>
-    ensures { IfOk result (λ g. g.feed.out ≡ None) }
+    ensures idle { IfOk result (λ g. g.feed.out ≡ None) }
+    ensures joined { IfOk result (λ g. g.feed.taker.place ≡ g.door.place) }
 {
     let Ends {
         queue,

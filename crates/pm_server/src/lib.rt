@@ -5,6 +5,7 @@ mod accepting;
 mod arrivals;
 mod doors;
 mod errors;
+mod filling;
 mod keys;
 mod notices;
 mod poll_feed;

@@ -1,4 +1,4 @@
-//! What an operator is told of connections that find no place.
+//! What an operator is told.
 
 use std::time::{Clock, Duration, Instant};
 
@@ -9,6 +9,9 @@ const QUIET: u64 = 60;
 pub trait Notices {
     /// So many connections were closed since this was last told, as no worker had a place for them.
     fn no_place(&mut self, closed: u64);
+
+    /// The table of this name has come to nine tenths of its limit, or more. Each is told of once.
+    fn nearly_full(&mut self, table: &str, limit: u64);
 }
 
 // How many connections were closed for want of a place since that was last told, and when it was.

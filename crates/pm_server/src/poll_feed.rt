@@ -2,6 +2,8 @@
 
 ghost use Rattle.std.specs.Prelude.{◌≡◌, ◌⊎◌, ℕ, None, Some, IfOk, IfSome, IfNone, IsTrue, true, false};
 ghost use Rattle.std.specs.Arc.{arc_value};
+ghost use Rattle.std.specs.Time.{instant_nanos};
+ghost use Rattle.slab.specs.Slab.{get};
 ghost use Rattle.pm_worker.specs.Feeding.{number_out};
 ghost use Rattle.pm_worker.specs.declared.feeds.Next.TheVariants as next;
 
@@ -12,6 +14,7 @@ use crate::watch::Watch;
 use mio::{Events, Interest, Poll, Token, Waker};
 use pm_handoff::{Handoff, Taker};
 use pm_io::MioLink;
+use pm_machine::Version;
 use pm_worker::{Conn, Feed, Next, Served, Turn};
 use slab::Slab;
 use std::alloc::Global;
@@ -59,7 +62,7 @@ pub struct PollFeed<'a, R> {
     called: bool,
     begun: bool,
     // The time of this round, and when silent connections were looked for last.
-    now: Instant,
+    time: Instant,
     looked: Instant,
     out: Option<u64>,
     stopped: bool,
@@ -71,12 +74,13 @@ pub struct PollFeed<'a, R> {
 impl<'a, R> Model for PollFeed<'a, R> {
     ghost use Rattle.std.specs.Prelude.{◌≡◌};
     ghost use Rattle.std.specs.Arc.{arc_value};
+    ghost use Rattle.std.specs.Time.{instant_nanos};
     ghost use Rattle.pm_server.specs.Polled.{Polled, HasPlaces};
     ghost use Rattle.pm_server.specs.declared.poll_feed.Resting.{Resting};
 
     ghost Value = { Polled Resting };
 
-    ghost view = { λ f. record { conns = f.conns; round = f.round; later = f.later; out = f.out; stopped = f.stopped; failed = f.failed; over = f.over } };
+    ghost view = { λ f. record { conns = f.conns; round = f.round; later = f.later; out = f.out; stopped = f.stopped; failed = f.failed; over = f.over; taker = f.taker; time = instant_nanos f.time } };
 
     ghost invariant = { λ f. (f.taker.place ≡ (arc_value f.queue).place) × HasPlaces f.out f.conns };
 }
@@ -97,7 +101,7 @@ impl<'a, R> Drop for PollFeed<'a, R> {
             later: _,
             called: _,
             begun: _,
-            now: _,
+            time: _,
             looked: _,
             out: _,
             stopped: _,
@@ -119,7 +123,8 @@ fn gather(events: &Events<Global>, ready: &mut Keys) -> bool {
 }
 
 impl<'a, R: Wait + Clock> PollFeed<'a, R> {
-    ghost use Rattle.pm_server.specs.Polled.{IsFirst, TakesOut, TakesNone};
+    ghost use Rattle.pm_server.specs.KeySets.{HasKey};
+    ghost use Rattle.pm_server.specs.Polled.{IsFirst, IsSilent, Stays, TakesOut, TakesNone};
 
     // A feed with no connections, and what wakes it.
     pub(crate) fn new<N: Net>(
@@ -132,13 +137,13 @@ impl<'a, R: Wait + Clock> PollFeed<'a, R> {
         taker: Taker<Arrival>,
     ) -> Result<(PollFeed<'a, R>, Waker), OpenError>
         requires { taker.place ≡ (arc_value queue).place }
-        ensures { IfOk result (λ made. made.0.out ≡ None) }
+        ensures { IfOk result (λ made. (made.0.out ≡ None) × (made.0.taker ≡ taker)) }
     {
         let poll = Poll::new(net)?;
         let waker = Waker::new(poll.registry(), Token(WAKE))?;
         let events = Events::with_capacity(alloc, MOST + 1)?;
         let conns = Slab::with_capacity(alloc, MOST)?;
-        let now = Instant::now(rt)?;
+        let time = Instant::now(rt)?;
         let feed = PollFeed {
             rt,
             alloc,
@@ -153,8 +158,8 @@ impl<'a, R: Wait + Clock> PollFeed<'a, R> {
             later: Keys::none(),
             called: false,
             begun: false,
-            now,
-            looked: now,
+            time,
+            looked: time,
             out: None,
             stopped: false,
             failed: false,
@@ -165,9 +170,11 @@ impl<'a, R: Wait + Clock> PollFeed<'a, R> {
 
     // Takes in a connection, and says so. It is closed where there is no place or no memory for it, or the system
     // doesn't watch it.
+    #[tactic(auto, using(crate::proofs::Staying::stays_all, crate::proofs::Staying::stays_beside))]
     fn take_in(&mut self, arrival: Arrival) -> bool
         requires { self.old.out ≡ None }
-        ensures { (self.new.out ≡ self.old.out) × (self.new.stopped ≡ self.old.stopped) }
+        ensures same { (self.new.out ≡ self.old.out) × (self.new.stopped ≡ self.old.stopped) }
+        ensures stay { Stays (λ r. instant_nanos r.since) self.old self.new }
     {
         if self.conns.len() >= MOST {
             return false;
@@ -182,7 +189,7 @@ impl<'a, R: Wait + Clock> PollFeed<'a, R> {
         let Ok(conn) = Conn::new(self.alloc, number, MioLink::new(stream)) else {
             return false;
         };
-        let since = self.now;
+        let since = self.time;
         self.conns.insert_reserved(Resting { conn, since });
         true
     }
@@ -198,7 +205,8 @@ impl<'a, R: Wait + Clock> PollFeed<'a, R> {
     // Takes connections that the acceptor has left, as many as there are places at most.
     fn welcome(&mut self)
         requires { self.old.out ≡ None }
-        ensures { (self.new.out ≡ self.old.out) × (self.new.stopped ≡ self.old.stopped) }
+        ensures same { (self.new.out ≡ self.old.out) × (self.new.stopped ≡ self.old.stopped) }
+        ensures stay { Stays (λ r. instant_nanos r.since) self.old self.new }
     {
         self.called = false;
         for _ in 0..MOST {
@@ -213,11 +221,13 @@ impl<'a, R: Wait + Clock> PollFeed<'a, R> {
     }
 
     // Whether a connection has had no turn for so long, and is to have none in this round.
-    fn is_silent(&self, key: usize) -> bool {
+    fn is_silent(&self, key: usize) -> bool
+        ensures silent { IsTrue result → (rest : _) → get self.now.conns key ≡ Some rest → IsSilent self.now.time (instant_nanos rest.since) }
+        ensures undue { IsTrue result → ¬ HasKey self.now.round key }
+    {
         match self.conns.get(key) {
             Some(resting) => {
-                self.now.duration_since(resting.since) >= Duration::from_secs(SILENCE)
-                    && !self.round.has(key)
+                self.time.duration_since(resting.since).as_secs() >= SILENCE && !self.round.has(key)
             }
             None => false,
         }
@@ -226,7 +236,8 @@ impl<'a, R: Wait + Clock> PollFeed<'a, R> {
     // Closes the connections that are silent.
     fn close_silent(&mut self)
         requires { self.old.out ≡ None }
-        ensures { (self.new.out ≡ self.old.out) × (self.new.stopped ≡ self.old.stopped) }
+        ensures same { (self.new.out ≡ self.old.out) × (self.new.stopped ≡ self.old.stopped) }
+        ensures stay { Stays (λ r. instant_nanos r.since) self.old self.new }
     {
         for key in 0..MOST {
             if self.is_silent(key) && self.conns.try_remove(key).is_some() {
@@ -238,13 +249,16 @@ impl<'a, R: Wait + Clock> PollFeed<'a, R> {
     // Looks for silent connections, where that is due.
     fn look(&mut self)
         requires { self.old.out ≡ None }
-        ensures { (self.new.out ≡ self.old.out) × (self.new.stopped ≡ self.old.stopped) }
+        ensures same { (self.new.out ≡ self.old.out) × (self.new.stopped ≡ self.old.stopped) }
+        ensures stay { Stays (λ r. instant_nanos r.since) self.old self.new }
     {
         if let Ok(now) = Instant::now(self.rt) {
-            self.now = now;
+            if now.checked_duration_since(self.time).is_some() {
+                self.time = now;
+            }
         }
-        if self.now.duration_since(self.looked) >= Duration::from_secs(LOOK) {
-            self.looked = self.now;
+        if self.time.duration_since(self.looked).as_secs() >= LOOK {
+            self.looked = self.time;
             self.close_silent();
         }
     }
@@ -266,6 +280,7 @@ impl<'a, R: Wait + Clock> PollFeed<'a, R> {
     fn ask(&mut self) -> bool
         requires { self.old.out ≡ None }
         ensures same { (self.new.out ≡ self.old.out) × (self.new.stopped ≡ self.old.stopped) }
+        ensures stay { Stays (λ r. instant_nanos r.since) self.old self.new }
         ensures no { result ≡ false → (self.new.failed ≡ true) ⊎ (self.new.over ≡ true) }
     {
         let wait = self.wait();
@@ -284,9 +299,11 @@ impl<'a, R: Wait + Clock> PollFeed<'a, R> {
     }
 
     // Begins a new round where this one is over. It says no where there is none to come.
+    #[tactic(auto, using(crate::proofs::Staying::stays_all))]
     fn refill(&mut self) -> bool
         requires { self.old.out ≡ None }
         ensures same { (self.new.out ≡ self.old.out) × (self.new.stopped ≡ self.old.stopped) }
+        ensures stay { Stays (λ r. instant_nanos r.since) self.old self.new }
         ensures no { result ≡ false → (self.new.failed ≡ true) ⊎ (self.new.over ≡ true) }
         ensures within { (key : ℕ) (rest : _) → IsFirst self.old key rest → (self.new ≡ self.old) × (result ≡ true) }
     {
@@ -311,7 +328,7 @@ impl<'a, R: Wait + Clock> PollFeed<'a, R> {
         requires { self.old.out ≡ None }
         ensures some { IfSome result (λ conn. (self.new.out ≡ Some conn.number) × TakesOut self.old self.new conn (λ r. r.conn)) }
         ensures none { IfNone result ((self.new.out ≡ None) × TakesNone self.old self.new) }
-        ensures same { self.new.stopped ≡ self.old.stopped }
+        ensures same { (self.new.stopped ≡ self.old.stopped) × (self.new.time ≡ self.old.time) × (self.new.taker ≡ self.old.taker) }
     {
         let key = self.round.take_first()?;
         let Resting { conn, since: _ } = self.conns.try_remove(key)?;
@@ -321,7 +338,7 @@ impl<'a, R: Wait + Clock> PollFeed<'a, R> {
 }
 
 impl<'a, R: Wait + Clock> Feed<MioLink> for PollFeed<'a, R> {
-    ghost use Rattle.pm_server.specs.Polled.{IsFirst, GoesOut, TakesBack};
+    ghost use Rattle.pm_server.specs.Polled.{IsFirst, IsSilent, GoesOut, TakesBack};
 
     ghost out = { λ f. f.out };
 
@@ -331,6 +348,8 @@ impl<'a, R: Wait + Clock> Feed<MioLink> for PollFeed<'a, R> {
         requires { self.old.out ≡ None }
         ensures given { (self.new.out ≡ number_out result) × (self.new.out ≡ None → self.new.stopped ≡ true) }
         ensures first { (key : ℕ) (rest : _) → IsFirst self.old key rest → (result ≡ next.Turn rest.conn) × GoesOut self.old self.new key }
+        ensures stay { (key : ℕ) (rest : _) → get self.old.conns key ≡ Some rest → (get self.new.conns key ≡ Some rest) ⊎ (result ≡ next.Turn rest.conn) ⊎ IsSilent self.new.time (instant_nanos rest.since) }
+        ensures place { self.new.taker.place ≡ self.old.taker.place }
         ensures end { self.new.out ≡ None → (self.new.failed ≡ true) ⊎ (self.new.over ≡ true) }
     {
         self.begin();
@@ -351,10 +370,10 @@ impl<'a, R: Wait + Clock> Feed<MioLink> for PollFeed<'a, R> {
         requires { self.old.out ≡ Some served.conn.number }
         ensures out { self.new.out ≡ None }
         ensures exact { TakesBack self.old self.new served.turn served.conn (λ r. r.conn) }
-        ensures same { (self.new.round ≡ self.old.round) × (self.new.stopped ≡ self.old.stopped) }
+        ensures same { (self.new.round ≡ self.old.round) × (self.new.stopped ≡ self.old.stopped) × (self.new.taker ≡ self.old.taker) }
     {
         self.out = None;
-        let since = self.now;
+        let since = self.time;
         match served.turn() {
             Turn::Idle => {
                 let conn = served.into_conn();
@@ -367,5 +386,9 @@ impl<'a, R: Wait + Clock> Feed<MioLink> for PollFeed<'a, R> {
             }
             Turn::Ended | Turn::LinkFault | Turn::Memory => self.free_place(),
         }
+    }
+
+    fn saw<V: Version>(&self, version: &V) {
+        self.watch.saw(version);
     }
 }

@@ -1,11 +1,15 @@
 //! What the acceptor and the workers of a server know of each other.
 
+use crate::filling::nearly_full;
 use mio::Waker;
+use pm_machine::Version;
 use std::sync::atomic::{AtomicBool, AtomicU64, Ordering};
 
-/// How many workers have begun, and whether the server is at its end. A change of either wakes the acceptor.
+/// How many workers have begun, which tables a worker has seen nearly full, and whether the server is at its end. A change of
+/// any wakes the acceptor.
 pub struct Watch {
     begun: AtomicU64,
+    full: AtomicU64,
     over: AtomicBool,
     waker: Waker,
 }
@@ -14,6 +18,7 @@ impl Drop for Watch {
     fn drop(self) {
         let Watch {
             begun: _,
+            full: _,
             over: _,
             waker: _,
         } = self;
@@ -25,6 +30,7 @@ impl Watch {
     pub(crate) fn new(waker: Waker) -> Watch {
         Watch {
             begun: AtomicU64::new(0),
+            full: AtomicU64::new(0),
             over: AtomicBool::new(false),
             waker,
         }
@@ -39,6 +45,20 @@ impl Watch {
     // How many workers have begun.
     pub(crate) fn begun(&self) -> u64 {
         self.begun.load(Ordering::SeqCst)
+    }
+
+    // A worker has seen this version.
+    pub(crate) fn saw<V: Version>(&self, version: &V) {
+        let full = nearly_full(version);
+        if full & !self.nearly_full() != 0 {
+            self.full.fetch_or(full, Ordering::SeqCst);
+            let _ = self.waker.wake();
+        }
+    }
+
+    // The tables that some worker has seen nearly full.
+    pub(crate) fn nearly_full(&self) -> u64 {
+        self.full.load(Ordering::SeqCst)
     }
 
     // The server is at its end.

@@ -7,6 +7,7 @@ mod LastSet
 mod Leaving
 mod Listed
 pub mod Listing
+mod Parents
 pub mod PlacedClasses
 mod NamesKept
 mod Regions

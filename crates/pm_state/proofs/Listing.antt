@@ -1,19 +1,16 @@
 -- The live elements listed one after another, and the users among them.
-use Rattle.std.proofs.Common.{◌≡◌, ◌<◌, ◌≤◌, ◌+◌, ◌++◌, ℕ, Bool, true, false, List, [], ◌∷◌, length, drop, filter, slice_get, leb, Option, Some, None, option_map, refl, sym, ◌∙◌, ap, subst, arith, inl, inr}
+use Rattle.std.proofs.Common.{◌≡◌, ◌<◌, ◌≤◌, ◌+◌, ◌++◌, ℕ, Bool, true, false, List, [], ◌∷◌, length, filter, leb, Option, Some, None, option_map, refl, sym, ◌∙◌, ap, subst, arith, inl, inr}
 use Rattle.std.specs.List.{find}
 use Rattle.std.proofs.lemmas.Bool.{cases_eq, le-leb, lt-leb, leb-true, leb-false, ne_eqb}
-use Rattle.std.proofs.lemmas.List.{append-nil, append_assoc, at_drop_all, length-map}
-use Rattle.std.proofs.lemmas.List.Elements.{filter-append}
+use Rattle.std.proofs.lemmas.List.{append-nil, append_assoc, length-map}
 use Rattle.pm_model.specs.Effect.{max_elements}
 use Rattle.pm_model.specs.Formed.{Each, AreRising, IsLive, IsWellFormed}
 use Rattle.pm_model.specs.Reviews.{is_user, is_user_at, numbers_in, users_in}
 use Rattle.pm_model.specs.State.{Graph, element_at}
 use Rattle.pm_model.specs.declared.elements.Element.{Element}
 use Rattle.pm_elements.specs.Checks.{is_at_least, least_from}
-use Rattle.pm_model.proofs.Walks.{drop-item}
-use Rattle.pm_laws.proofs.Items.{each-at, each-from, find-found, get-contains, length-filter}
-use Rattle.pm_laws.proofs.Numbers.{stands-at}
-use Rattle.pm_laws.proofs.Reviewed.{elements_live}
+use Rattle.pm_laws.proofs.Items.{each-from, find-found, length-filter}
+use Rattle.pm_laws.proofs.Numbers.{live-some, stands-at}
 
 -- ---- those from a number on
 
@@ -77,6 +74,12 @@ least-above es n k h =
     let low = leb-true n p.0.number (find-found (is_at_least n) es p.0 p.1).1 in
     omega (arith, low, p.2)
 
+-- and it is live
+pub least-live : (es : List Element) (n k : ℕ) → AreRising 0 es → Some k ≡ least_from es n → IsLive es k
+least-live es n k h is =
+    let p = least-found es n k is in
+    subst (IsLive es) p.2 (live-some es p.0.number p.0 (stands-at 0 es p.0 h (find-found (is_at_least n) es p.0 p.1).0))
+
 past : (n x : ℕ) (es : List Element) → find (is_at_least n) es ≡ None → IsLive es x → x < n
 past n x [] none live = absurd (cc)
 past n x (e ∷ es) none live = of (leb n e.number) refl (past n x es) where
@@ -133,24 +136,7 @@ users-listed G f =
     (each-from (λ (d : Element). element_at G.elements d.number ≡ Some d) G.elements
     (λ d c. stands-at 0 G.elements d f.elements.rising c))
 
--- one element more
-pub users-more : (p : ℕ → Bool) (ns users : List ℕ) (i n : ℕ) → filter p ns ≡ users ++ filter p (drop i ns) → slice_get ns i ≡ Some n →
-    filter p ns ≡ (users ++ filter p (n ∷ [])) ++ filter p (drop (i + 1) ns)
-users-more p ns users i n h at =
-    h ∙ ap (λ (rest : List ℕ). users ++ filter p rest) (drop-item ns i n at)
-    ∙ ap (λ (rest : List ℕ). users ++ rest) (filter-append p (n ∷ []) (drop (i + 1) ns))
-    ∙ sym (append_assoc users (filter p (n ∷ [])) (filter p (drop (i + 1) ns)))
-
--- and all of them
-pub users-all : (p : ℕ → Bool) (ns users : List ℕ) (i : ℕ) → filter p ns ≡ users ++ filter p (drop i ns) → length ns ≤ i → filter p ns ≡ users
-users-all p ns users i h past =
-    h ∙ ap (λ (rest : List ℕ). users ++ rest) (at_drop_all (filter p) ns i past) ∙ append-nil users
-
--- ---- what is listed is live, and there are few
-
-pub number-live : (G : Graph) (ns : List ℕ) (i n : ℕ) → IsWellFormed G → ns ≡ numbers_in G.elements → slice_get ns i ≡ Some n → IsLive G.elements n
-number-live G ns i n f is at =
-    each-at (IsLive G.elements) (numbers_in G.elements) n (elements_live G f) (get-contains (numbers_in G.elements) i n (rw is at at))
+-- ---- there are few
 
 pub few-elements : (G : Graph) → IsWellFormed G → length (numbers_in G.elements) ≤ max_elements
 few-elements G f = omega (arith, f.elements.few, length-map G.elements (λ (e : Element). e.number))

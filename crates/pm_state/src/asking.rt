@@ -3,9 +3,10 @@ ghost use Rattle.std.specs.Prelude.{◌≡◌, ◌++◌, ◌∷◌, [], filter, 
 ghost use Rattle.pm_model.specs.Formed.{IsLive};
 ghost use Rattle.pm_model.specs.KeptReviews.{subject};
 ghost use Rattle.pm_model.specs.Reviews.{is_user_at, list_of, numbers_in, users_in};
+ghost use Rattle.pm_state.specs.declared.asking.LiveNumbers.{LiveNumbers};
 
 use crate::graph::Graph;
-use crate::judging::{GraphJudge, UserJudge};
+use crate::judging::{ElementJudge, UserJudge};
 use pm_model::{ElementId, Kind, Memory, PairList, PlaceList, ReviewOf, UserList};
 use pm_review::{capabilities, entries};
 
@@ -43,25 +44,38 @@ fn push_user(graph: &Graph, users: &mut UserList, id: ElementId) -> Result<(), M
     Ok(())
 }
 
-/// Those of all live elements that are users.
-pub(crate) fn users_among(graph: &Graph, elements: &PlaceList) -> Result<UserList, Memory>
-    requires { elements.now ≡ numbers_in graph.now.elements }
-    ensures { IfOk result (λ list. list ≡ users_in graph.now.elements) }
-{
-    graph.formed();
-    let mut users = UserList::new(elements.allocator());
-    for id in elements.as_slice() {
-        push_user(graph, &mut users, *id)?;
-    }
-    Ok(users)
+/// All live elements, and those of them that are users, by rising number.
+pub(crate) struct LiveNumbers {
+    pub elements: PlaceList,
+    pub users: UserList,
 }
 
-/// All live users, by rising number.
-pub fn live_users(graph: &Graph) -> Result<UserList, Memory>
-    ensures { IfOk result (λ list. list ≡ users_in graph.now.elements) }
+impl Drop for LiveNumbers {
+    fn drop(self) {
+        let LiveNumbers {
+            elements: _,
+            users: _,
+        } = self;
+    }
+}
+
+/// Lists them, in one walk.
+pub(crate) fn list_live(graph: &Graph) -> Result<LiveNumbers, Memory>
+    ensures elements { IfOk result (λ (l : LiveNumbers). l.elements ≡ numbers_in graph.now.elements) }
+    ensures users { IfOk result (λ (l : LiveNumbers). l.users ≡ users_in graph.now.elements) }
 {
-    let elements = live_elements(graph)?;
-    users_among(graph, &elements)
+    graph.formed();
+    let table = graph.elements();
+    let alloc = graph.classes().allocator();
+    let mut elements = PlaceList::new(alloc);
+    let mut users = UserList::new(alloc);
+    let mut from = 0;
+    while let Some(id) = table.next(from) {
+        elements.push(id)?;
+        push_user(graph, &mut users, id)?;
+        from = id.number() + 1;
+    }
+    Ok(LiveNumbers { elements, users })
 }
 
 /// The capabilities of a user: its rights on each live element are asked for once.
@@ -81,9 +95,9 @@ pub fn entries_of(graph: &Graph, element: ElementId) -> Result<PairList, Memory>
     ensures { IfOk result (λ list. list ≡ list_of graph.now (ReviewOf.Entries element)) }
 {
     graph.formed();
-    let users = live_users(graph)?;
-    let mut judge = GraphJudge::new(graph);
-    entries(&mut judge, &users, element)
+    let live = list_live(graph)?;
+    let mut judge = ElementJudge::new(graph)?;
+    entries(&mut judge, &live.users, element)
 }
 
 /// The list of a review that may be kept.

@@ -159,6 +159,13 @@ impl Graph {
         self.tables.rights.name_of(bit)
     }
 
+    /// The names of the rights, by bit.
+    pub fn rights(&self) -> &RightNames
+        ensures { result.now ≡ self.now.rights }
+    {
+        &self.tables.rights
+    }
+
     /// The live policy classes, by rising number.
     pub fn classes(&self) -> &ClassList
         ensures { result.now ≡ classes_in self.now.elements }

@@ -14,10 +14,11 @@ mod prohibitions;
 mod repairs;
 mod reviews;
 mod sessions;
+mod sizes;
 mod state;
 mod tables;
 
-pub use asking::{capabilities_of, entries_of, is_user, live_elements, live_users};
+pub use asking::{capabilities_of, entries_of, is_user, live_elements};
 pub use draft::Draft;
 pub use graph::Graph;
 pub use judging::GraphJudge;

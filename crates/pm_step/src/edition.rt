@@ -1,9 +1,9 @@
 //! A state as a version that many callers share.
 
 use crate::looking::glance;
-use crate::steps::step;
+use crate::steps::{advance, step};
 use pm_machine::{Glance, Stepped, Version};
-use pm_model::{ElementId, Entry, Grows, Memory, Name, NameOf, Request};
+use pm_model::{ElementId, Entry, Grows, Memory, Name, NameOf, Reply, Request, Table};
 use pm_state::State;
 use std::alloc::Global;
 use std::marker::Model;
@@ -67,6 +67,10 @@ impl Version for Edition {
         self.state.entry(i)
     }
 
+    fn size(&self, table: Table) -> u64 {
+        self.state.size(table)
+    }
+
     fn known(&self) {
         self.state.replayed();
         self.state.graph().formed();
@@ -87,6 +91,16 @@ impl Version for Edition {
             Stepped::Accepted(state, reply) => Ok(Stepped::Accepted(Edition { state }, reply)),
             Stepped::Answered(reply) => Ok(Stepped::Answered(reply)),
         }
+    }
+
+    fn advance<R: Threads + Sync>(
+        &mut self,
+        rt: &R,
+        seat: u32,
+        nth: u64,
+        request: &Request,
+    ) -> Result<Reply, Memory> {
+        advance(rt, &mut self.state, seat, nth, request)
     }
 
     fn glance<R: Threads + Sync>(&self, rt: &R, request: &Request) -> Result<Glance, Memory> {

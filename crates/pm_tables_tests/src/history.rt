@@ -3,14 +3,10 @@
 ghost use Rattle.std.specs.Prelude.{◌<◌};
 
 use pm_history::*;
-use pm_model::{Body, Entry, Name, Request};
+use pm_model::{Body, Entry, Request};
 use std::alloc::Global;
 use std::process::Abort;
 use std::test::Fail;
-
-fn named(rt: &impl Abort, text: &str) -> Name {
-    Name::new(text.as_bytes()).expect(rt, "a name")
-}
 
 /// The entry of this seat and number, which asks to end the process.
 fn end_of(seat: u32, nth: u64, process: u32) -> Entry {
@@ -30,11 +26,6 @@ fn at(history: &History, i: u64) -> Option<(u32, u64)> {
     Some((entry.seat, entry.nth))
 }
 
-/// What stands at the first three places.
-fn three_are(rt: &impl Abort, history: &History, want: [Option<(u32, u64)>; 3]) {
-    assert_eq!(rt; [at(history, 0), at(history, 1), at(history, 2)], want);
-}
-
 #[test]
 fn the_third_of_two_is_full(rt: HostRuntime) {
     let mut history = History::new(rt.alloc(), 2);
@@ -44,47 +35,6 @@ fn the_third_of_two_is_full(rt: HostRuntime) {
     let third = history.push(end_of(4, 2, 9));
     assert!(rt; third == Err(HistoryError::Full));
     assert!(rt; history.len() == 2 && history.limit() == 2);
-    three_are(&rt, &history, [Some((4, 1)), Some((3, 1)), None]);
-}
-
-#[test]
-fn limit_0_takes_none(rt: HostRuntime) {
-    let mut history = History::new(rt.alloc(), 0);
-    assert!(rt; history.push(end_of(4, 1, 7)) == Err(HistoryError::Full));
-    assert!(rt; history.len() == 0);
-    assert!(rt; history.get(0).is_none());
-}
-
-/// Ends process 7, and then opens a session of the user.
-fn two_requests(alloc: Global, user: Name) -> Result<History, HistoryError> {
-    let mut history = History::new(alloc, 262144);
-    history.push(end_of(4, 1, 7))?;
-    history.push(Entry {
-        seat: 3,
-        nth: 5,
-        request: Request {
-            after: Some(6),
-            body: Body::OpenSession { user },
-        },
-    })?;
-    Ok(history)
-}
-
-fn check_opening(rt: &impl Abort, entry: &Entry, ann: &Name) {
-    let request = &entry.request;
-    assert_eq!(rt; (entry.seat, entry.nth, request.after), (3, 5, Some(6)));
-    assert!(rt; matches!(&request.body, Body::OpenSession { user } if user == ann));
-}
-
-#[test]
-fn get_gives_seat_number_and_request(rt: HostRuntime) -> Result<(), Fail> {
-    let ann = named(&rt, "ann");
-    let history = two_requests(rt.alloc(), ann)?;
-    check_opening(&rt, history.get(1).expect(&rt, "an entry"), &ann);
-    let first = &history.get(0).expect(&rt, "an entry").request;
-    assert!(rt; first.after.is_none());
-    assert!(rt; matches!(&first.body, Body::EndProcess { process: 7 }));
-    Ok(())
 }
 
 /// A history and its copy.
@@ -94,67 +44,10 @@ struct Both {
     copy: History,
 }
 
-/// Both begin with one entry. One goes on with another, its copy with two.
-fn copied_after_one(alloc: Global) -> Result<Both, Fail> {
-    let mut history = History::new(alloc, 3);
-    history.push(end_of(4, 1, 7))?;
-    let copy = history.copy()?;
-    history.push(end_of(3, 1, 8))?;
-    Ok(Both { history, copy })
-}
-
 /// Puts two entries of seat 5 behind the others.
 fn push_two(history: &mut History) -> Result<(), HistoryError> {
     history.push(end_of(5, 1, 9))?;
     history.push(end_of(5, 2, 9))
-}
-
-#[test]
-fn a_copy_is_another_history(rt: HostRuntime) -> Result<(), Fail> {
-    let mut both = copied_after_one(rt.alloc())?;
-    assert!(rt; both.copy.len() == 1 && both.copy.limit() == 3);
-    push_two(&mut both.copy)?;
-    assert!(rt; both.history.len() == 2);
-    three_are(&rt, &both.history, [Some((4, 1)), Some((3, 1)), None]);
-    three_are(&rt, &both.copy, [Some((4, 1)), Some((5, 1)), Some((5, 2))]);
-    Ok(())
-}
-
-/// A history whose only entry is taken back out once it is copied.
-fn one_let_go(alloc: Global) -> Result<Both, Fail> {
-    let mut history = History::new(alloc, 1);
-    history.push(end_of(4, 1, 7))?;
-    let copy = history.copy()?;
-    history.take_back();
-    Ok(Both { history, copy })
-}
-
-#[test]
-fn a_copy_keeps_what_the_original_lets_go(rt: HostRuntime) -> Result<(), Fail> {
-    let Both { history, copy } = one_let_go(rt.alloc())?;
-    assert!(rt; history.len() == 0);
-    drop(history);
-    assert_eq!(rt; at(&copy, 0), Some((4, 1)));
-    Ok(())
-}
-
-/// A history of two entries, of which the second is taken back out.
-fn taken_back(alloc: Global) -> Result<History, HistoryError> {
-    let mut history = History::new(alloc, 2);
-    history.push(end_of(4, 1, 7))?;
-    history.push(end_of(3, 1, 8))?;
-    history.take_back();
-    Ok(history)
-}
-
-#[test]
-fn take_back_leaves_the_others(rt: HostRuntime) -> Result<(), Fail> {
-    let mut history = taken_back(rt.alloc())?;
-    assert!(rt; history.len() == 1);
-    three_are(&rt, &history, [Some((4, 1)), None, None]);
-    history.push(end_of(3, 2, 9))?;
-    assert_eq!(rt; at(&history, 1), Some((3, 2)));
-    Ok(())
 }
 
 /// A history of so many entries, all of seat 4.

@@ -15,8 +15,6 @@ mod model;
 #[cfg(test)]
 mod oblig;
 #[cfg(test)]
-mod pattern;
-#[cfg(test)]
 mod procs;
 #[cfg(test)]
 mod rights;

@@ -1,16 +1,14 @@
-//! Each public function once, the names that are made, and the limits.
+//! Each call that takes memory, with ample memory: what it answers.
 
 use pm_model::{
-    Act, Action, ActionList, Command, ElementId, EventNames, GuardList, Kind, Memory, Mode, Name,
-    NameList, Obligation, Pattern, Place, ProcessTerm, Response, ResponseError, Subject, Term,
-    TermList,
+    Act, Action, ActionList, Command, ElementId, EventNames, GuardList, Kind, Memory, Name,
+    Obligation, Pattern, Place, Response, Term,
 };
-use pm_oblig::{ObligError, Obligations, bind, fresh_name, name_of};
+use pm_oblig::{ObligError, Obligations, bind};
 use std::alloc::Global;
 use std::process::Abort;
 use std::test::Fail;
 
-mod limits;
 mod list;
 mod made;
 

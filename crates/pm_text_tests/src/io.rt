@@ -1,12 +1,9 @@
-//! What reads and writes answer, one after another, with chosen calls failing.
+//! What the adapters over readers, writers and sockets answer, one call after another.
 
 mod sockets;
 
-use pm_io::{
-    CalmSink, CalmSource, Link, LinkRead, LinkWrite, MemKeep, MemLink, MemSink, MemSource, NoKeep,
-    StdSink, StdSource,
-};
-use pm_model::{Body, Entry, Failed, Keep, KeepError, Request, Sink, Source};
+use pm_io::{StdSink, StdSource};
+use pm_model::{Failed, Sink, Source};
 use std::io;
 use std::io::{Cursor, Error, ErrorKind, Read, Write};
 use std::process::Abort;
@@ -33,42 +30,9 @@ fn writes<S: Sink>(rt: &impl Abort, sink: &mut S, expected: &[Result<usize, Fail
 static WHOLE: &[Option<&[u8]>] = &[Some(b"ab"), Some(b"c"), Some(b"")];
 
 #[test]
-fn a_calm_source_gives_its_bytes(rt: HostRuntime) -> Result<(), Fail> {
-    let mut calm = CalmSource::new(rt.alloc(), b"abc")?;
-    reads(&rt, &mut calm, WHOLE);
-    Ok(())
-}
-
-#[test]
 fn a_source_gives_the_bytes_of_its_reader(rt: HostRuntime) {
     let mut std = StdSource::new(b"abc".as_slice());
     reads(&rt, &mut std, WHOLE);
-}
-
-static BROKEN: &[Option<&[u8]>] = &[Some(b"ab"), None, Some(b"c"), None, Some(b"")];
-
-#[test]
-fn a_source_fails_where_it_is_told_to(rt: HostRuntime) -> Result<(), Fail> {
-    let mut failing = MemSource::new(rt.alloc(), b"abc", &[4, 2])?;
-    reads(&rt, &mut failing, BROKEN);
-    Ok(())
-}
-
-#[test]
-fn a_sink_takes_up_to_its_room(rt: HostRuntime) -> Result<(), Fail> {
-    let mut calm = CalmSink::new(rt.alloc(), 5)?;
-    writes(&rt, &mut calm, &[Ok(3), Ok(2), Ok(0)]);
-    assert_eq!(rt; calm.taken(), b"abcab".as_slice());
-    Ok(())
-}
-
-#[test]
-fn a_sink_fails_where_it_is_told_to(rt: HostRuntime) -> Result<(), Fail> {
-    let mut failing = MemSink::new(rt.alloc(), 5, &[2, 4])?;
-    let answers = [Ok(3), Err(Failed), Ok(2), Err(Failed), Ok(0)];
-    writes(&rt, &mut failing, &answers);
-    assert_eq!(rt; failing.taken(), b"abcab".as_slice());
-    Ok(())
 }
 
 // Fails at its first call, then gives a byte, then none, and counts its calls.
@@ -162,93 +126,4 @@ fn a_full_writer_takes_nothing(rt: HostRuntime) {
     let mut room = [0u8; 5];
     let mut full = StdSink::new(Cursor::new(room.as_mut_slice()));
     writes(&rt, &mut full, &[Ok(3), Ok(2), Ok(0)]);
-}
-
-// An entry of this number.
-fn entry(nth: u64) -> Entry {
-    let request = Request {
-        after: None,
-        body: Body::StartProcess { session: 0 },
-    };
-    Entry {
-        seat: 7,
-        nth,
-        request,
-    }
-}
-
-// What it answers to this entry, once so many are kept.
-fn keeps(
-    rt: &impl Abort,
-    keeper: &mut MemKeep,
-    kept: u64,
-    nth: u64,
-    answer: Result<(), KeepError>,
-) {
-    assert_eq!(rt; keeper.keep(kept, &entry(nth)), answer);
-}
-
-fn check_kept(rt: &impl Abort, entries: &[Entry]) {
-    assert!(rt; entries.len() == 2);
-    for (kept, nth) in entries.iter().zip([1, 2]) {
-        assert_eq!(rt; (kept.seat, kept.nth), (7, nth));
-    }
-}
-
-#[test]
-fn a_keeper_fails_where_it_is_told_to(rt: HostRuntime) -> Result<(), Fail> {
-    let mut keeper = MemKeep::new(rt.alloc(), &[3, 1])?;
-    keeps(&rt, &mut keeper, 0, 1, Err(KeepError::Failed));
-    keeps(&rt, &mut keeper, 0, 1, Ok(()));
-    keeps(&rt, &mut keeper, 1, 2, Err(KeepError::Failed));
-    keeps(&rt, &mut keeper, 1, 2, Ok(()));
-    check_kept(&rt, keeper.entries());
-    Ok(())
-}
-
-#[test]
-fn who_keeps_nothing_never_fails(rt: HostRuntime) {
-    assert!(rt; NoKeep.keep(5, &entry(9)).is_ok());
-}
-
-// What reads of at most four bytes answer, one after another.
-fn links_read(rt: &impl Abort, link: &mut MemLink, expected: &[LinkRead]) {
-    let mut piece = [0u8; 4];
-    for answer in expected {
-        assert_eq!(rt; link.read(&mut piece), *answer);
-    }
-}
-
-// What writes of `abc` answer, one after another.
-fn links_write(rt: &impl Abort, link: &mut MemLink, expected: &[LinkWrite]) {
-    for answer in expected {
-        assert_eq!(rt; link.write(b"abc"), *answer);
-    }
-}
-
-const READS: [LinkRead; 8] = [
-    LinkRead::Got(1),
-    LinkRead::Again,
-    LinkRead::Failed,
-    LinkRead::Got(1),
-    LinkRead::Failed,
-    LinkRead::Got(3),
-    LinkRead::Got(1),
-    LinkRead::End,
-];
-
-const WRITES: [LinkWrite; 4] = [
-    LinkWrite::Took(3),
-    LinkWrite::Again,
-    LinkWrite::Took(1),
-    LinkWrite::Failed,
-];
-
-#[test]
-fn a_link_does_what_it_is_told(rt: HostRuntime) -> Result<(), Fail> {
-    let mut link = MemLink::new(rt.alloc(), b"abcdef", 4, &[1, 0, 3], &[2, 5, 10], &[3, 5])?;
-    links_read(&rt, &mut link, &READS);
-    links_write(&rt, &mut link, &WRITES);
-    assert_eq!(rt; link.taken(), b"abca".as_slice());
-    Ok(())
 }

@@ -5,10 +5,6 @@
 #[cfg(test)]
 mod io;
 #[cfg(test)]
-mod printing;
-#[cfg(test)]
-mod reading;
-#[cfg(test)]
 mod requests;
 #[cfg(test)]
 mod session;

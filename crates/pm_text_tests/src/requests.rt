@@ -132,6 +132,12 @@ fn actions_have_texts(rt: HostRuntime) -> Result<(), Fail> {
 
 // Lines that are spelt in another way, and how they are printed.
 static OTHERWISE: &[&str] = &[
+    "\t{\"\\u0063md\": \"version\", \"name\": 5}\r => {\"cmd\":\"version\"}",
+    r#"{"cmd":"withdraw","name":"watch","obligation":0,"proc":3} => {"cmd":"withdraw","name":"watch","proc":3}"#,
+    r#"{"process":1,"cmd":"start_process","session":2} => {"cmd":"start_process","session":2}"#,
+    r#"{"process":2,"proc":1,"cmd":"end_process"} => {"cmd":"end_process","process":2}"#,
+    r#"{"cmd":"prohibit","exc":0,"inc":["docs","docs"],"mode":"any","name":"p","proc":0,"rights":["read","write","read"],"subject":{"process":1,"user":"ann"},"subject":{"x":7,"ua":"staff"},"exc":["memo"]} => {"cmd":"prohibit","exc":["memo"],"inc":["docs","docs"],"mode":"any","name":"p","proc":0,"rights":["read","write"],"subject":{"ua":"staff"}}"#,
+    r#"{"cmd":"oblige","do":[{"cmd":"create_object","into":"docs","name":"a","proc":-1},{"at":"$target","cmd":"associate","rights":["read","read"],"ua":"staff"}],"name":"o","proc":0,"when":{"on":"read"}} => {"cmd":"oblige","do":[{"cmd":"create_object","into":"docs","name":"a"},{"at":"$target","cmd":"associate","rights":["read"],"ua":"staff"}],"name":"o","proc":0,"when":{"on":"read"}}"#,
     "\t{\"proc\" : 0, \"\\u006eame\":\"\\u0061b\", \"extra\":[1.5e3], \"cmd\":\"create_pc\"}\r => {\"cmd\":\"create_pc\",\"name\":\"ab\",\"proc\":0}",
     r#"{"id":1,"cmd":"version","id":2,"proc":0} => {"cmd":"version","id":2}"#,
     r#"{"ua":"u","rights":["w","fly","w"],"proc":0,"cmd":"associate","at":"o"} => {"at":"o","cmd":"associate","proc":0,"rights":["w","fly"],"ua":"u"}"#,

@@ -10,7 +10,7 @@ use Rattle.std.specs.declared.io.ErrorKind.TheVariants.{OutOfMemory}
 use Rattle.std.specs.declared.vec.IntoIter.{IntoIter}
 use Rattle.pm_words.specs.Lists.{Wanted, Entry, entries, labels_of}
 use Rattle.pm_words.specs.declared.words.Asked.{Asked}
-use Rattle.pm_words.specs.declared.words.Asked.TheVariants.{Run, Generate, Serve, ServeJournal}
+use Rattle.pm_words.specs.declared.words.Asked.TheVariants.{Run, Generate, Serve, ServeJournal, RequestLines}
 
 -- as many numbers as are wanted, each from its least to its most
 abbrev pub AreWithin : List Wanted → List ℕ → Type 0
@@ -51,6 +51,9 @@ IsServe words port workers = Says words (codes "serve") (port ∷ workers ∷ []
 abbrev pub IsServeJournal : List (List ℕ) → ℕ → ℕ → List ℕ → Type 0
 IsServeJournal words port workers file = Says words (codes "serve-journal") (port ∷ workers ∷ []) (file ∷ [])
 
+abbrev pub IsRequestLines : List (List ℕ) → Type 0
+IsRequestLines words = Says words (codes "request-lines") [] []
+
 -- a server with a journal, whatever its file
 abbrev pub HasJournal : List (List ℕ) → ℕ → ℕ → Type 0
 HasJournal words port workers = (file : List ℕ) × IsServeJournal words port workers file
@@ -69,6 +72,7 @@ IsAsked words (Some Run) = IsRun words
 IsAsked words (Some (Generate size)) = IsGenerate words size
 IsAsked words (Some (Serve port workers)) = IsServe words port workers
 IsAsked words (Some (ServeJournal port workers)) = HasJournal words port workers
+IsAsked words (Some RequestLines) = IsRequestLines words
 IsAsked words None = IsOther words
 
 -- the words behind the program's name
@@ -86,6 +90,9 @@ AskServe args port workers = IsOkAnd args (λ words. IsServe (words_of words) po
 
 abbrev pub AskServeJournal : Result (IntoIter (String Global) Global) Error → ℕ → ℕ → Type 0
 AskServeJournal args port workers = IsOkAnd args (λ words. HasJournal (words_of words) port workers)
+
+abbrev pub AskRequestLines : Result (IntoIter (String Global) Global) Error → Type 0
+AskRequestLines args = IsOkAnd args (λ words. IsRequestLines (words_of words))
 
 abbrev pub AskFile : Result (IntoIter (String Global) Global) Error → List ℕ → Type 0
 AskFile args file = IsOkAnd args (λ words. HasFile (words_of words) file)

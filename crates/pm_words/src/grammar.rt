@@ -17,9 +17,10 @@ pub(crate) const WORKERS: Wanted = ("WORKERS", 1, 32);
 pub(crate) const FILE: &str = "FILE";
 
 /// The words that there are: of this list the grammar, the usage line and the command that reads the words are made.
-pub const WORDS: [Entry; 4] = [
+pub const WORDS: [Entry; 5] = [
     ("run", &[], &[]),
     ("generate", &[SIZE], &[]),
     ("serve", &[PORT, WORKERS], &[]),
     ("serve-journal", &[PORT, WORKERS], &[FILE]),
+    ("request-lines", &[], &[]),
 ];

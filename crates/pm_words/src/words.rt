@@ -6,7 +6,7 @@ ghost use Rattle.std.specs.Vec.Iter.{into_iter_items};
 ghost use Rattle.clap.specs.Words.{found_of, kind_of, rows_of, subcommand_rows_of};
 ghost use Rattle.pm_words.specs.Lists.{wanted_of};
 ghost use Rattle.pm_words.specs.Told.{asks_journal, IsText, IsValue, Tells, TellsMet};
-ghost use Rattle.pm_words.specs.Words.{is_flag, words_of, AskFile, AskRun, AskGenerate, AskServe, AskServeJournal, AskOther, HasFile, IsAsked};
+ghost use Rattle.pm_words.specs.Words.{is_flag, words_of, AskFile, AskRun, AskGenerate, AskServe, AskServeJournal, AskRequestLines, AskOther, HasFile, IsAsked};
 
 use crate::command::make_command;
 use crate::grammar::{FILE, PORT, SIZE, WORKERS, Wanted};
@@ -30,6 +30,8 @@ pub enum Asked {
     Serve { port: u16, workers: u16 },
     /// The same, with a journal in the file that `file_in` tells.
     ServeJournal { port: u16, workers: u16 },
+    /// The request lines that make the policy document of the input.
+    RequestLines,
 }
 
 // The number that the word is, in decimal digits with no zero in front.
@@ -105,6 +107,7 @@ fn told_by(name: &str, values: &ArgMatches<'_>) -> Option<Asked>
         "generate" => generator(values),
         "serve" => server(values),
         "serve-journal" => journal_server(values),
+        "request-lines" => Some(Asked::RequestLines),
         _ => None,
     }
 }
@@ -168,6 +171,7 @@ pub fn read_words(alloc: Global, args: io::Result<Args>) -> Result<Option<Asked>
     ensures generate { (n : ℕ) → IfOk result (λ asked. (asked ≡ Some (Asked.Generate n)) ↔ AskGenerate args n) }
     ensures serve { (p w : ℕ) → IfOk result (λ asked. (asked ≡ Some (Asked.Serve p w)) ↔ AskServe args p w) }
     ensures serve_journal { (p w : ℕ) → IfOk result (λ asked. (asked ≡ Some (Asked.ServeJournal p w)) ↔ AskServeJournal args p w) }
+    ensures request_lines { IfOk result (λ asked. (asked ≡ Some Asked.RequestLines) ↔ AskRequestLines args) }
     ensures other { IfOk result (λ asked. (asked ≡ None) ↔ AskOther args) }
     ensures memory { IfErr args (λ error. IsErr result ↔ (error_kind error ≡ ErrorKind.OutOfMemory)) }
 {

@@ -42,6 +42,9 @@ pub trait Feed<L: Link> {
         requires number { out self.old ≡ Some served.conn.number }
         requires served { IsServed L.wire served.conn served.turn }
         ensures { out self.new ≡ None };
+
+    /// Is shown the version that the worker's seat shows after each turn. Nothing is known of what it does with it.
+    fn saw<V: Version>(&self, version: &V);
 }
 
 /// Serves what a feed gives, until it stops.
@@ -66,6 +69,7 @@ pub fn work<
             Next::Turn(conn) => {
                 let served = Served::serve(rt, alloc, house, seat, conn, gate);
                 feed.back(served);
+                feed.saw(seat.shown());
             }
             Next::Stop => return,
         }

@@ -8,6 +8,7 @@ use crate::feeds::{Feed, Next};
 use crate::served::Served;
 use crate::turns::Turn;
 use pm_io::Link;
+use pm_machine::Version;
 use pm_model::Memory;
 use std::alloc::Global;
 use std::marker::Model;
@@ -109,4 +110,6 @@ impl<L: Link + Drop> Feed<L> for ListFeed<L> {
         }
         self.done.push_reserved(served);
     }
+
+    fn saw<V: Version>(&self, _version: &V) {}
 }

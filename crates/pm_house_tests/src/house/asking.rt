@@ -38,7 +38,6 @@ fn what(reply: &Reply) -> Told {
 /// A request. Process 0 gives the commands.
 #[derive(Clone, Copy)]
 pub(crate) enum Ask {
-    Version,
     Class(&'static str),
     Make(Kind, &'static str, &'static str),
     /// Who is in the first may read what is in the second.
@@ -69,7 +68,6 @@ fn by_process_0(command: Command) -> Body {
 
 fn body(rt: &(impl Abort + Alloc<A = Global>), ask: Ask) -> Body {
     match ask {
-        Ask::Version => Body::Version,
         Ask::Class(name) => by_process_0(Command::CreatePc {
             name: named(rt, name),
         }),

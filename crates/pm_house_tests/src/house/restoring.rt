@@ -3,7 +3,7 @@
 ghost use Rattle.std.specs.Prelude.{◌≡◌};
 
 use super::asking::{Ask, Told, is_told, request};
-use pm_house::{Home, House, RestoreError, Seat, Seats, house_room};
+use pm_house::{Home, House, Nobody, RestoreError, Seat, Seats, house_room};
 use pm_io::NoKeep;
 use pm_machine::Version;
 use pm_model::Entry;
@@ -32,7 +32,16 @@ fn restored<H: Home, R: Threads + Wait + Abort + Alloc<A = Global> + Sync>(
     requires ledger { (blank.name ≡ H.name) × (blank.parts ≡ H.parts) }
     requires seats { (H.all ≡ 2) × (H.parts ≡ 2) }
 {
-    House::restore(rt, rt.alloc(), opened, blank, NoKeep, entries, 2)
+    House::restore(
+        rt,
+        rt.alloc(),
+        opened,
+        blank,
+        NoKeep,
+        entries,
+        2,
+        &mut Nobody,
+    )
 }
 
 // What a seat shows, and how many entries it has made.

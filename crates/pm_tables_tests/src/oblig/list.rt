@@ -10,7 +10,7 @@ const ROWS: [Row; 4] = [
     ("d", "read", Some(63)),
 ];
 
-pub(super) fn item_of(alloc: Global, name: Name, on: Name) -> Result<Obligation, Fail> {
+fn item_of(alloc: Global, name: Name, on: Name) -> Result<Obligation, Fail> {
     let mut actions = ActionList::new(alloc);
     let act = Act::Delete {
         name: Term::EventTarget,
@@ -69,13 +69,6 @@ fn withdraw_c(rt: &impl Abort, list: &mut Obligations) -> Result<(), Fail> {
     Ok(())
 }
 
-#[test]
-fn obligations_come_and_go(rt: HostRuntime) -> Result<(), Fail> {
-    let mut list = list_of(&rt, &ROWS)?;
-    withdraw_b(&rt, &mut list)?;
-    withdraw_c(&rt, &mut list)
-}
-
 /// The list has all four still.
 fn check_four(rt: &impl Abort, list: &Obligations) {
     assert!(rt; list.len() == 4);
@@ -89,21 +82,5 @@ fn a_copy_keeps_what_is_withdrawn(rt: HostRuntime) -> Result<(), Fail> {
     withdraw_b(&rt, &mut both.list)?;
     withdraw_c(&rt, &mut both.list)?;
     check_four(&rt, &both.copy);
-    Ok(())
-}
-
-#[test]
-fn targets_stand_in_words(rt: HostRuntime) -> Result<(), Fail> {
-    let list = list_of(&rt, &ROWS)?;
-    let read = list.targets_of(named(&rt, "read")).ok_or("reads")?;
-    assert!(rt; !read.anywhere);
-    assert!(rt; read.words.len() == 2);
-    for word in read.words.as_slice() {
-        let want = if word.number > 0 { 1 } else { 1 << 63 | 1 << 5 };
-        assert_eq!(rt; word.bits, want);
-    }
-    let assign = list.targets_of(named(&rt, "assign")).ok_or("assignments")?;
-    assert!(rt; assign.anywhere);
-    assert!(rt; list.targets_of(named(&rt, "write")).is_none());
     Ok(())
 }

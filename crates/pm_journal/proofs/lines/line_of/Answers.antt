@@ -1,4 +1,4 @@
-use Rattle.std.proofs.Common.{rules, ◌≡◌, ap, subst, sym, arith, None}
+use Rattle.std.proofs.Common.{rules, ◌≡◌, inr, ap, subst, sym, arith, None}
 use Rattle.pm_model.specs.Asked.{asked}
 use Rattle.pm_model.specs.declared.requests.Asked.{Asked}
 use Rattle.pm_model.specs.declared.requests.What.TheVariants as what
@@ -22,3 +22,7 @@ returns-clause-entry c =
     let askable : IsAskable request = search rules in
     let asks : (asked line).what ≡ what.Request request = ap (λ (a : Asked). a.what) (c.printed_is_asked.ensures None request line tt askable c.in_ok-line.ensures) in
     same_entry c.args.entry.now line asks
+
+pub returns-then-len-gt-LONGEST_LINE-clause-refused : goal.returns-then-len-gt-LONGEST_LINE-clause-refused
+returns-then-len-gt-LONGEST_LINE-clause-refused c none =
+    inr (c.in_ok-line.line.items, c.in_ok-line.ensures, omega (arith, c.if-len-gt-LONGEST_LINE.true, c.len.ensures))

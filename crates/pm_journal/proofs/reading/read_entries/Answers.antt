@@ -22,11 +22,16 @@ loop-count-preserved g c =
       entries = omega (arith, ap length c.in_ok-push-in-Whole.ensures.ok, length-append c.loop-count.entries (entry ∷ []), inv.entries);
       most = omega (arith, inv.most, c.if-count-eq-MOST.false);
       place = omega (arith, inv.place, short);
+      there = λ tells.
+          let same : D.content c.loop-count.disk ≡ content = (inv.stays tells).content in
+          let found : IsFound (drop at content) c.in_ok-find.field-0 = subst (λ (l : List ℕ). IsFound (drop at l) c.in_ok-find.field-0) same (c.in_ok-find.ensures.found tells) in
+          let whole : IsFoundWhole (drop at content) entry len = subst (IsFound (drop at content)) c.in-Whole.is found in
+          omega (arith, whole.whole.whole, whole.len_is, length-drop at content);
       read = λ tells.
           let same : D.content c.loop-count.disk ≡ content = (inv.stays tells).content in
           let found : IsFound (drop at content) c.in_ok-find.field-0 = subst (λ (l : List ℕ). IsFound (drop at l) c.in_ok-find.field-0) same (c.in_ok-find.ensures.found tells) in
           let whole : IsFoundWhole (drop at content) entry len = subst (IsFound (drop at content)) c.in-Whole.is found in
-          subst (λ (es : List Entry). AreRead (at + (17 + len)) (k + 1) content es) (sym c.in_ok-push-in-Whole.ensures.ok) (reads_entry at k content c.loop-count.entries entry len (inv.read tells) whole);
+          subst (λ (es : List Entry). AreRead (at + (17 + len)) (k + 1) content es) (sym c.in_ok-push-in-Whole.ensures.ok) (reads_entry at k content c.loop-count.entries entry len (inv.read tells) whole (omega (arith, inv.most, c.if-count-eq-MOST.false)));
       stays = λ tells. stays_then D.content D.may_leave D.moment D.left_since c.args.disk.now c.loop-count.disk c.find.new.disk (inv.stays tells) (c.find.ensures.stays tells);
       faults = c.in_ok-find.ensures.cause.kept ∙ inv.faults;
     }

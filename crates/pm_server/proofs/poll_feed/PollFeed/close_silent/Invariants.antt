@@ -1,5 +1,7 @@
 use Rattle.std.proofs.Common.{◌≡◌, None}
+use Rattle.std.specs.Time.{instant_nanos}
+use Rattle.pm_server.specs.Polled.{Stays}
 use Rattle.pm_server.proofs.poll_feed.PollFeed.close_silent.Given as goal
 
 abbrev pub invariant-loop-key : goal.invariant-loop-key
-invariant-loop-key g l = (l.self.out ≡ None) × (l.self.stopped ≡ l.fn.self.stopped)
+invariant-loop-key g l = record { out : l.self.out ≡ None; stopped : l.self.stopped ≡ l.fn.self.stopped; stay : Stays (λ r. instant_nanos r.since) l.fn.self l.self }

@@ -8,9 +8,9 @@ returns-in-Idle-clause-exact g c =
     let turn : c.args.served.turn ≡ Idle = search rules in
     rw (← c.self.view_is, turn) (
       record {
-        rest = record { conn = c.into_conn-conn.result; since = c.self.inside.now };
+        rest = record { conn = c.into_conn-conn.result; since = c.self.inside.time };
         is = c.into_conn-conn.ensures;
-        put = subst (λ (k : ℕ). Updates c.self.inside.conns c.insert_reserved.new.self k (Some (record { conn = c.into_conn-conn.result; since = c.self.inside.now }))) c.insert_reserved.ensures.key c.insert_reserved.ensures.updates;
+        put = subst (λ (k : ℕ). Updates c.self.inside.conns c.insert_reserved.new.self k (Some (record { conn = c.into_conn-conn.result; since = c.self.inside.time }))) c.insert_reserved.ensures.key c.insert_reserved.ensures.updates;
       },
       refl,
     )

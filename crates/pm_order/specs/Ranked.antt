@@ -1,0 +1,46 @@
+-- The order of elements by their places in a list. The project's own.
+use Rattle.std.specs.Prelude.{ℕ, zero, suc, ◌+◌, Bool, true, false, not, ◌&&◌, List, [], ◌∷◌, map, filter, slice_index_or, get_or, slice_set, Option, None, Some, if◌then◌else◌}
+use Rattle.std.specs.List.{list_all}
+use Rattle.pm_model.specs.declared.elements.Kind.TheVariants.{Pc}
+use Rattle.pm_policy.specs.Policy.{doc_element, is_assigned, is_called}
+use Rattle.pm_policy.specs.declared.policy.DocElement.{DocElement}
+use Rattle.pm_policy.specs.declared.policy.DocAssignment.{DocAssignment}
+
+-- ---- places
+
+-- the place of the element of a name, from 0
+abbrev pub place : List DocElement → List ℕ → ℕ
+place [] name = 0
+place (e ∷ es) name = if is_called name e then 0 else suc (place es name)
+
+-- the element at a place that there is
+abbrev pub element_in : List DocElement → ℕ → DocElement
+element_in es k = get_or es k (doc_element Pc [])
+
+-- the places of what an element is assigned to
+abbrev pub containers_of : List DocElement → List DocAssignment → DocElement → List ℕ
+containers_of es pairs e = map (λ (p : DocAssignment). place es p.to) (filter (is_assigned e.name) pairs)
+
+-- these of each element
+abbrev pub containers : List DocElement → List DocAssignment → List (List ℕ)
+containers es pairs = map (containers_of es pairs) es
+
+-- ---- the order
+
+-- the element at the place isn't made, and its containers are
+abbrev pub can_make : List Bool → ℕ → List ℕ → Bool
+can_make made i above = not (get_or made i false) && list_all (λ k. get_or made k false) above
+
+-- the first place from i on at which it can be made; the containers of each stand in its place
+abbrev pub first_from : ℕ → List Bool → List (List ℕ) → Option ℕ
+first_from i made [] = None
+first_from i made (above ∷ rest) = if can_make made i above then Some i else first_from (i + 1) made rest
+
+abbrev pub then_ranks : Option ℕ → (ℕ → List ℕ) → List ℕ
+then_ranks None rest = []
+then_ranks (Some k) rest = k ∷ rest k
+
+-- always the first place at which it can be made, at most n of them
+abbrev pub ranked : List (List ℕ) → ℕ → List Bool → List ℕ
+ranked above zero made = []
+ranked above (suc n) made = then_ranks (first_from 0 made above) (λ k. ranked above n (slice_set made k true))

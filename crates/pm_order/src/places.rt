@@ -1,0 +1,99 @@
+//! Elements by their places in a list, found by name.
+
+ghost use Rattle.std.specs.Prelude.{◌≡◌, ◌<◌, ◌++◌, ◌∷◌, [], true, length, get_or, map, replicate, slice_set, IfOk, OnOk, bytes_eq};
+ghost use Rattle.std.specs.List.{list_any, position_or_len};
+ghost use Rattle.pm_order.specs.Ranked.{containers};
+ghost use Rattle.pm_policy.specs.Sound.{AreOnceCalled};
+ghost use Rattle.pm_policy.specs.Waiting.{AreKnown};
+ghost use Rattle.pm_policy.specs.declared.policy.DocElement.{DocElement};
+
+use indexmap::IndexSet;
+use pm_model::{ItemList, Memory, Name};
+use pm_policy::{DocAssignment, DocElement};
+use std::alloc::Global;
+use std::marker::Model;
+
+/// The names of some elements, each with its place from 0 on. Contracts see their list.
+pub struct Places {
+    names: IndexSet<Name>,
+}
+
+impl Drop for Places {
+    fn drop(self) {
+        let Places { names: _ } = self;
+    }
+}
+
+impl Model for Places {
+    ghost use Rattle.std.specs.Prelude.{List, ℕ};
+
+    ghost Value = { List (List ℕ) };
+
+    ghost view = { λ p. p.names.keys };
+}
+
+impl Places {
+    /// The names of the elements, in their order.
+    pub fn new(alloc: Global, elements: &[DocElement]) -> Result<Places, Memory>
+        requires { AreOnceCalled elements.now }
+        ensures { IfOk result (λ p. p ≡ map (λ (e : DocElement). e.name) elements.now) }
+    {
+        let mut names = IndexSet::new(alloc);
+        for element in elements {
+            names.insert(element.name)?;
+        }
+        Ok(Places { names })
+    }
+
+    /// Whether the name is among them.
+    pub fn contains(&self, name: &Name) -> bool
+        ensures { result ≡ list_any (bytes_eq name.now) self.now }
+    {
+        self.names.contains(name)
+    }
+
+    // The place of a name that is among them.
+    fn find(&self, name: &Name) -> usize
+        requires { list_any (bytes_eq name.now) self.now ≡ true }
+        ensures { result ≡ position_or_len (bytes_eq name.now) self.now }
+    {
+        self.names.get_index_of(name).unwrap()
+    }
+}
+
+fn empty_lists(alloc: Global, count: usize) -> Result<Vec<ItemList<usize>>, Memory>
+    ensures { IfOk result (λ v. v.items ≡ replicate count []) }
+{
+    let mut lists = Vec::with_capacity(alloc, count)?;
+    for _ in 0..count {
+        lists.push(ItemList::new(alloc))?;
+    }
+    Ok(lists)
+}
+
+fn add(lists: &mut [ItemList<usize>], at: usize, item: usize) -> Result<(), Memory>
+    requires { at < length lists.old }
+    ensures { OnOk result (lists.new ≡ slice_set lists.old at (get_or lists.old at [] ++ item ∷ [])) }
+{
+    lists[at].push(item)
+}
+
+/// The containers of each element, by their places.
+pub(crate) fn containers(
+    alloc: Global,
+    elements: &[DocElement],
+    pairs: &[DocAssignment],
+) -> Result<Vec<ItemList<usize>>, Memory>
+    requires once { AreOnceCalled elements.now }
+    requires known { AreKnown pairs.now elements.now }
+    ensures { IfOk result (λ v. v.items ≡ containers elements.now pairs.now) }
+{
+    let places = Places::new(alloc, elements)?;
+    let mut containers = empty_lists(alloc, elements.len())?;
+    for pair in pairs {
+        let from = places.find(&pair.from);
+        let to = places.find(&pair.to);
+        add(containers.as_mut_slice(), from, to)?;
+    }
+    Ok(containers)
+}

@@ -1,0 +1,15 @@
+pub mod Assigning
+pub mod Counting
+pub mod Created
+pub mod Drawn
+pub mod Elements
+pub mod Fitting
+pub mod Law
+pub mod Ordered
+pub mod Places
+pub mod Rules
+pub mod Sorted
+pub mod Standing
+pub mod Steps
+pub mod Turns
+pub mod Waiting

@@ -1,0 +1,70 @@
+-- Elements are found in a map from names to kinds as in a list.
+use Rattle.std.proofs.Common.{◌≡◌, ◌<◌, ◌+◌, ℕ, Bool, true, false, List, [], ◌∷◌, ◌++◌, map, find, Some, option_map, bytes_eq, refl, sym, ap, ◌∙◌, subst, inl, inr, take, drop, get_or, length}
+use Rattle.std.specs.List.{list_any, position_from}
+use Rattle.std.specs.Map.{lookup}
+use Rattle.std.specs.Option.{is_some}
+use Rattle.std.proofs.lemmas.Bool.{cases_Bool, or_parts}
+use Rattle.indexmap.specs.IndexMap.{insert_entry}
+use Rattle.pm_model.specs.declared.elements.Kind.{Kind}
+use Rattle.pm_policy.specs.Order.{is_made}
+use Rattle.pm_policy.specs.Policy.{called, doc_element, is_called}
+use Rattle.pm_policy.proofs.Ordered.{same-name}
+use Rattle.pm_policy.specs.Sound.{AreOnceCalled}
+use Rattle.pm_policy.specs.declared.policy.DocElement.{DocElement}
+use Rattle.pm_sound.specs.Entries.{element}
+use Rattle.pm_sound.proofs.Twice.{bytes-swapped, once-apart, once-push, parted, pushed}
+
+pub found : (name : List ℕ) (es : List (List ℕ × Kind)) → called (map element es) name ≡ option_map (λ kind. doc_element kind name) (lookup (bytes_eq name) es)
+found name [] = refl
+found name (e ∷ es) = elim (cases_Bool (bytes_eq name e.0)) [
+  | inl is ↦ rw is (ap (λ n. Some (doc_element e.1 n)) (sym (same-name name e.0 is)))
+  | inr other ↦ rw other (found name es)
+]
+
+-- an element whose name is free stands behind the others
+pub put : (es : List (List ℕ × Kind)) (name : List ℕ) (kind : Kind) → is_made (map element es) name ≡ false →
+    map element (insert_entry bytes_eq es name kind) ≡ map element es ++ doc_element kind name ∷ []
+put [] name kind free = refl
+put (e ∷ es) name kind free =
+    let parts = or_parts (bytes_eq name e.0) (is_made (map element es) name) free in
+    rw parts.0 (ap (λ l. element e ∷ l) (put es name kind parts.1))
+
+-- something is found exactly where something passes
+pub is_some_find : {X : Type 0} (test : X → Bool) (xs : List X) → is_some (find test xs) ≡ list_any test xs
+is_some_find test [] = refl
+is_some_find test (x ∷ xs) = elim (cases_Bool (test x)) [
+  | inl is ↦ rw is refl
+  | inr other ↦ rw other (is_some_find test xs)
+]
+
+pub is_some_position : {X : Type 0} (test : X → Bool) (i : ℕ) (xs : List X) → is_some (position_from test i xs) ≡ list_any test xs
+is_some_position test i [] = refl
+is_some_position test i (x ∷ xs) = elim (cases_Bool (test x)) [
+  | inl is ↦ rw is refl
+  | inr other ↦ rw other (is_some_position test (i + 1) xs)
+]
+
+-- ---- elements one after another
+
+module _ (all elements : List DocElement) (i : ℕ) (x : DocElement) (below : i < length elements) (is : x ≡ get_or elements i x) (so_far : all ≡ take i elements) where
+  swapped : (d e : DocElement) → is_called d.name e ≡ is_called e.name d
+  swapped d e = bytes-swapped d.name e.name
+
+  -- one whose name is taken
+  pub taken : is_some (called all x.name) ≡ true → AreOnceCalled elements → ⊥
+  taken found once =
+      let whole = subst AreOnceCalled (sym (parted elements i x below is)) once in
+      let no = once-apart (λ (d : DocElement). is_called d.name) swapped (take i elements) x (drop (i + 1) elements) whole in
+      let yes : is_made all x.name ≡ true = sym (is_some_find (is_called x.name) all) ∙ found in cc
+
+  -- one whose name is free
+  pub free : is_some (called all x.name) ≡ false → is_made all x.name ≡ false
+  free none = sym (is_some_find (is_called x.name) all) ∙ none
+
+  pub more : (new : List DocElement) → new ≡ all ++ x ∷ [] → new ≡ take (i + 1) elements
+  more new made = made ∙ ap (λ l. l ++ x ∷ []) so_far ∙ sym (pushed elements i x below is)
+
+  pub more-once : is_some (called all x.name) ≡ false → AreOnceCalled (take i elements) → AreOnceCalled (take (i + 1) elements)
+  more-once none once =
+      let new : is_made (take i elements) x.name ≡ false = subst (λ l. is_made l x.name ≡ false) so_far (free none) in
+      subst AreOnceCalled (sym (pushed elements i x below is)) (once-push (λ (d : DocElement). is_called d.name) swapped (take i elements) x once new)

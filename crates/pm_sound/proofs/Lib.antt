@@ -1,0 +1,6 @@
+mod Defining
+mod Found
+mod Known
+mod Ruled
+mod Told
+mod Twice
