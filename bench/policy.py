@@ -2,7 +2,8 @@
 
 Three classes hold 300 user attributes and 300 object attributes, six levels deep, with 2,000 users and 4,000 objects if
 not told otherwise, each fourth object in two classes. `root` is in three user attributes of the last level, and asks by
-the last of its processes.
+the last of its processes. A policy can be wider: with more attributes in each level, and with so many more assignments of each
+user, each object and `root` to attributes of the last level.
 """
 import random
 from collections import Counter
@@ -31,9 +32,10 @@ class Policy:
     each element, `above` what contains it, and `given` how many associations give a user a right at an element;
     `barring` has the prohibitions that apply to the asker, in order."""
 
-    def __init__(self, associations, prohibitions, users=USERS, objects=OBJECTS):
+    def __init__(self, associations, prohibitions, users=USERS, objects=OBJECTS, wide=WIDE, more=0):
         self.random = random.Random(1)
         self.users, self.objects = users, objects
+        self.wide, self.more, self.assigned = wide, more, 0
         self.into, self.above, self.associations = {}, {}, {}
         self.lines, self.replies, self.version = [], [], 0
         self.classes = [f"c{n}" for n in range(CLASSES)]
@@ -53,16 +55,19 @@ class Policy:
 
     def populate(self):
         for tree, cmd in (("u", "create_ua"), ("o", "create_oa")):
-            for n in range(LEVELS * WIDE):
+            for n in range(LEVELS * self.wide):
                 self.create(cmd, f"{tree}{n}", self.upper(tree, n))
         for n in range(self.users):
             self.create("create_user", f"user{n}", self.last("u"))
+            self.assign_more(f"user{n}", "u", self.more)
         for n in range(self.objects):
             self.create("create_object", f"object{n}", self.last("o"))
-            if n % 4 == 0:
-                self.assign(f"object{n}", self.last("o"))
-        for _ in range(3):
-            self.assign("root", self.last("u"))
+            self.assign_more(f"object{n}", "o", self.more + (n % 4 == 0))
+        self.assign_more("root", "u", self.more + 3)
+
+    def assign_more(self, name, tree, count):
+        for _ in range(count):
+            self.assign(name, self.last(tree))
 
     def make(self, line, told=""):
         """The next line that makes the policy. It is accepted, and the reply tells this too."""
@@ -72,17 +77,18 @@ class Policy:
 
     def put(self, name, containers):
         """An element that contains no other is in these containers from now on."""
+        self.assigned += len(containers) - len(self.into.get(name, []))
         self.into[name] = containers
         self.above[name] = {name}.union(*(self.above[container] for container in containers))
 
     def upper(self, tree, n):
         """The container of the n-th attribute: a class, or an attribute of the level above."""
-        if n < WIDE:
+        if n < self.wide:
             return self.classes[n % CLASSES]
-        return f"{tree}{n - n % WIDE - WIDE + self.random.randrange(WIDE)}"
+        return f"{tree}{n - n % self.wide - self.wide + self.random.randrange(self.wide)}"
 
     def last(self, tree):
-        return f"{tree}{(LEVELS - 1) * WIDE + self.random.randrange(WIDE)}"
+        return f"{tree}{(LEVELS - 1) * self.wide + self.random.randrange(self.wide)}"
 
     def create(self, cmd, name, into):
         self.put(name, [into])
@@ -101,7 +107,7 @@ class Policy:
     def associate_at_random(self, count):
         pairs = {}
         while len(pairs) < count:
-            pair = tuple(f"{tree}{self.random.randrange(LEVELS * WIDE)}" for tree in "uo")
+            pair = tuple(f"{tree}{self.random.randrange(LEVELS * self.wide)}" for tree in "uo")
             pairs[pair] = ("read",) if len(pairs) % 2 else ("read", "write")
         for (ua, at), rights in pairs.items():
             self.associate(ua, at, rights)
@@ -119,7 +125,7 @@ class Policy:
         if kind == "user":
             number = self.random.randrange(self.users + 1)
             return ('{"user":"root"}', True) if number == self.users else (f'{{"user":"user{number}"}}', False)
-        name = f"u{self.random.randrange(LEVELS * WIDE)}"
+        name = f"u{self.random.randrange(LEVELS * self.wide)}"
         return f'{{"ua":"{name}"}}', name in self.above["root"]
 
     def prohibit(self, name):
@@ -127,7 +133,7 @@ class Policy:
         subject, applies = self.subject()
         rights = self.random.choice((("read",), ("write",), ("read", "write"), ("assign", "review")))
         mode = self.random.choice(("all", "any"))
-        inc = [f"o{WIDE + self.random.randrange(LEVELS * WIDE - WIDE)}" for _ in range(self.random.randrange(1, 3))]
+        inc = [f"o{self.wide + self.random.randrange((LEVELS - 1) * self.wide)}" for _ in range(self.random.randrange(1, 3))]
         exc = [f"object{self.random.randrange(self.objects)}"] if mode == "all" else []
         named = [",".join(f'"{item}"' for item in items) for items in (exc, inc, rights)]
         self.make(

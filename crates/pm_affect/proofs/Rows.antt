@@ -1,7 +1,7 @@
 -- The region row by row, and the pairs of a row that are judged.
 use Rattle.std.proofs.Common.{◌≡◌, ℕ, Bool, true, false, ◌==◌, ◌&&◌, ◌||◌, List, [], ◌∷◌, length, filter, None, if◌then◌else◌, refl, sym, ap, ◌∙◌, arith, append-nil}
 use Rattle.std.specs.List.{list_any}
-use Rattle.std.proofs.lemmas.Bool.{and_parts, eqb-true, false≢true, or_parts}
+use Rattle.std.proofs.lemmas.Bool.{and_parts, eqb-true, false≢true, or_parts, true≢false}
 use Rattle.std.proofs.lemmas.List.{length-map}
 use Rattle.pm_model.specs.Decision.{range_by, applies_by}
 use Rattle.pm_model.specs.declared.prohibitions.Subject.{Subject}
@@ -10,7 +10,7 @@ use Rattle.pm_affect.specs.Affected.{is_in}
 use Rattle.pm_affect.specs.Judged.{in_scope, is_kept, judged, pairs_of}
 use Rattle.pm_affect.specs.Lists.{Listed, Lists, is_among}
 use Rattle.pm_affect.specs.Puts.{cleared}
-use Rattle.pm_affect.specs.Rows.{is_near, is_nothing, is_process, row, row_by, with_each}
+use Rattle.pm_affect.specs.Rows.{has_near, has_row, is_near, is_near_row, is_nothing, is_process, is_some_row, is_wide, row, row_by, with_each}
 use Rattle.pm_affect.specs.declared.region.Region.{Region}
 use Rattle.pm_affect.specs.declared.region.Region.TheVariants.{Nothing, One, Under, Between, Barred}
 use Rattle.pm_affect.specs.declared.region.Row.{Row}
@@ -88,12 +88,60 @@ module _ (below : ℕ → ℕ → Bool) where
     none [] = refl
     none (p ∷ ps) = rw (in-nothing region p.0 p.1 is) (none ps)
 
+  -- ---- none with a user
+
+  pub no_row_near : (region : Region) (u : ℕ) → has_row below region u ≡ false → has_near below region u ≡ false
+  no_row_near region u none = go (row_by below region u) none where
+    go : (r : Row) → is_some_row r ≡ false → is_near_row r ≡ false
+    go Empty none = refl
+    go Near none = absurd (true≢false none)
+    go Whole none = absurd (true≢false none)
+
+  no-row : (region : Region) (u e : ℕ) → has_row below region u ≡ false → is_in below region u e ≡ false
+  no-row region u e none = go (row_by below region u) refl none where
+    go : (r : Row) → r ≡ row_by below region u → is_some_row r ≡ false → is_in below region u e ≡ false
+    go Empty is none = sym (in-empty region u e is)
+    go Near is none = absurd (true≢false none)
+    go Whole is none = absurd (true≢false none)
+
+  pub judged-passed : (region : Region) (scope : ℕ → ℕ → Bool) (u : ℕ) (es : List ℕ) → has_row below region u ≡ false → judged (is_in below region) scope (u ∷ []) es ≡ []
+  judged-passed region scope u [] none = refl
+  judged-passed region scope u (e ∷ es) none = rw (no-row region u e none) (judged-passed region scope u es none)
+
 pub cleared-nothing : (region : Region) (L : Lists) → is_nothing region ≡ true → L ≡ cleared region L
 cleared-nothing Nothing L is = refl
 cleared-nothing (One x) L is = absurd (cc)
 cleared-nothing (Under x) L is = refl
 cleared-nothing (Between ua at) L is = refl
 cleared-nothing (Barred p) L is = refl
+
+-- where all elements lie in the region with some users, and there are none
+pub none_of_all : (inside : ℕ → ℕ → Bool) (u : ℕ) (es : List ℕ) → length es ≡ 0 → row inside u es ≡ []
+none_of_all inside u [] none = refl
+none_of_all inside u (e ∷ es) none = absurd (omega (arith, none))
+
+-- where those alone lie in it that are near, and there are none
+pub none_of_near : (below : ℕ → ℕ → Bool) (region : Region) (u : ℕ) (near es : List ℕ) → is_wide region ≡ false → length near ≡ 0 →
+    (has_near below region u ≡ true → near ≡ filter (is_near below region) es) → row (is_in below region) u es ≡ []
+none_of_near below region u near es narrow none those = go (row_by below region u) refl those where
+  empty : (ns : List ℕ) → length ns ≡ 0 → ns ≡ []
+  empty [] h = refl
+  empty (n ∷ ns) h = absurd (omega (arith, h))
+
+  go : (r : Row) → r ≡ row_by below region u → (is_near_row r ≡ true → near ≡ filter (is_near below region) es) → row (is_in below region) u es ≡ []
+  go Empty is those = row-empty below region u es is
+  go Near is those = row-near below region u es is ∙ ap (with_each u) (sym (those refl) ∙ empty near none)
+  go Whole is those = absurd (not-whole region narrow (sym is)) where
+    bare : (b : Bool) → (if b then Near else Empty) ≡ Whole → ⊥
+    bare true h = cc
+    bare false h = cc
+
+    not-whole : (region : Region) → is_wide region ≡ false → row_by below region u ≡ Whole → ⊥
+    not-whole Nothing narrow h = cc
+    not-whole (One x) narrow h = cc
+    not-whole (Under x) narrow h = cc
+    not-whole (Between ua at) narrow h = bare (below u ua) h
+    not-whole (Barred p) narrow h = bare (applies_by below u None p.subject) h
 
 -- ---- nor any list
 

@@ -1,5 +1,5 @@
 -- The region of a change row by row: which elements lie in it with one user. The project's own.
-use Rattle.std.specs.Prelude.{◌≡◌, ◌/◌, ℕ, Bool, true, false, ◌==◌, ◌&&◌, ◌||◌, not, if◌then◌else◌, length, List, map, filter, Option, None, Some}
+use Rattle.std.specs.Prelude.{◌≡◌, ◌/◌, ℕ, Bool, true, false, ◌==◌, ◌&&◌, ◌||◌, not, if◌then◌else◌, length, List, map, filter, None}
 use Rattle.std.specs.List.{list_any}
 use Rattle.pm_model.specs.Containment.{Relation}
 use Rattle.pm_model.specs.Decision.{range_by, applies_by}
@@ -7,6 +7,7 @@ use Rattle.pm_model.specs.declared.prohibitions.Subject.{Subject}
 use Rattle.pm_model.specs.declared.prohibitions.Subject.TheVariants.{Process}
 use Rattle.pm_decide.specs.Live.{IsLive}
 use Rattle.pm_affect.specs.Lists.{Lists, subjects}
+use Rattle.pm_affect.specs.declared.touching.Asked.{Asked}
 use Rattle.pm_affect.specs.declared.touching.Side.{Side}
 use Rattle.pm_affect.specs.declared.touching.Side.TheVariants.{User, Element}
 use Rattle.pm_affect.specs.declared.region.Region.{Region}
@@ -38,6 +39,14 @@ is_near_row _ = false
 abbrev pub has_near : (ℕ → ℕ → Bool) → Region → ℕ → Bool
 has_near below region u = is_near_row (row_by below region u)
 
+abbrev pub is_some_row : Row → Bool
+is_some_row Empty = false
+is_some_row _ = true
+
+-- some element may lie in it with the user: the row isn't empty
+abbrev pub has_row : (ℕ → ℕ → Bool) → Region → ℕ → Bool
+has_row below region u = is_some_row (row_by below region u)
+
 abbrev pub is_process : Subject ℕ ℕ → Bool
 is_process (Process p) = true
 is_process _ = false
@@ -66,9 +75,9 @@ may_touch below region L =
     not (is_nothing region || (length L.caps == 0 && length L.entries == 0))
     && (is_wide region || list_any (near_on User below region) (subjects L.caps) || list_any (near_on Element below region) (subjects L.entries))
 
--- no live number of the 64 that are passed by passes the test
-abbrev pub ArePassed : (ℕ → Bool) → Relation → Option ℕ → Type 0
-ArePassed test relation passed = (k x : ℕ) → passed ≡ Some k → IsLive relation x → x / 64 ≡ k → test x ≡ false
+-- no live number of the 64 that were asked about last passes the test, where none may
+abbrev pub ArePassed : (ℕ → Bool) → Relation → Asked → Type 0
+ArePassed test relation asked = (x : ℕ) → asked.may ≡ false → IsLive relation x → x / 64 ≡ asked.k → test x ≡ false
 
 -- the user with each of the elements
 abbrev pub with_each : ℕ → List ℕ → List (ℕ × ℕ)

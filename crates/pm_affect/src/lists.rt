@@ -11,7 +11,7 @@ use crate::region::Region;
 use crate::sides::{
     all_subjects, copy_all, has_at, insert, list, next_place, place, put_at, remove, take_out,
 };
-use pm_model::{ElementId, Memory, PairList, PlaceList, ReviewOf, Rights, UserList};
+use pm_model::{ElementId, Memory, PairList, PlaceList, ReviewOf, Rights};
 use std::alloc::Global;
 use std::marker::Model;
 
@@ -161,13 +161,6 @@ impl KeptLists {
         ensures { result ≡ is_among (subjects self.now.caps) user }
     {
         has_at(&self.caps, i, user)
-    }
-
-    /// The users whose capabilities are kept, by rising number.
-    pub(crate) fn users(&self) -> Result<UserList, Memory>
-        ensures { IfOk result (λ users. users ≡ subjects self.now.caps) }
-    {
-        all_subjects(&self.caps)
     }
 
     /// The elements whose entries are kept, by rising number.

@@ -7,7 +7,7 @@ ghost use Rattle.pm_decide.specs.Live.{IsLive};
 ghost use Rattle.pm_affect.specs.Affected.{is_in, is_of_prohibition, region_by};
 ghost use Rattle.pm_affect.specs.Live.{RegionLive};
 ghost use Rattle.pm_affect.specs.declared.region.Row.{Row};
-ghost use Rattle.pm_affect.specs.Rows.{has_near, is_near, is_near_row, is_nothing, is_process, is_wide, row_by};
+ghost use Rattle.pm_affect.specs.Rows.{has_row, is_near, is_near_row, is_nothing, is_process, is_wide, row_by};
 
 use pm_decide::{applies, in_range};
 use pm_model::{Change, ElementId, Memory, Prohibition, Reach, Subject};
@@ -193,10 +193,9 @@ impl Region {
         }
     }
 
-    /// Whether some user with a number from 64 k on, of 64 of them, may have a row of those that are near: never no where one
-    /// has.
-    pub(crate) fn may_have_near<R: Reach>(&self, k: u32, reach: &mut R) -> bool
-        ensures none { result ≡ false → (u : ℕ) → IsLive (R.relation reach.old) u → u / 64 ≡ k → has_near (R.relation reach.old).below self.now u ≡ false }
+    /// Whether some user with a number from 64 k on, of 64 of them, may have a row that isn't empty: never no where one has.
+    pub(crate) fn may_have_row<R: Reach>(&self, k: u32, reach: &mut R) -> bool
+        ensures none { result ≡ false → (u : ℕ) → IsLive (R.relation reach.old) u → u / 64 ≡ k → has_row (R.relation reach.old).below self.now u ≡ false }
         ensures same { R.relation reach.new ≡ R.relation reach.old }
     {
         match self {

@@ -1,8 +1,7 @@
 //! The lists of kept reviews after a change: the pairs that it can have changed are judged, each once, and put into the lists
 //! that have them.
 
-ghost use Rattle.std.specs.Prelude.{◌≡◌, ℕ, ◌<◌, ◌+◌, ◌*◌, ◌^◌, ◌-◌, ◌∷◌, [], true, length, map, min, filter, IfOk, OnOk};
-ghost use Rattle.std.specs.List.{list_any};
+ghost use Rattle.std.specs.Prelude.{◌≡◌, ℕ, Bool, ◌<◌, ◌+◌, ◌*◌, ◌^◌, ◌-◌, ◌∷◌, [], true, false, length, map, min, filter, IfOk, OnOk};
 ghost use Rattle.pm_decide.specs.Live.{IsLive, AllLive};
 ghost use Rattle.pm_affect.specs.Affected.{is_in};
 ghost use Rattle.pm_affect.specs.Judged.{in_scope, judged};
@@ -10,10 +9,11 @@ ghost use Rattle.pm_affect.specs.Lists.{Rise, is_among, subjects};
 ghost use Rattle.pm_affect.specs.Live.{AreAsked, AreJudged, IsJudged, RegionLive};
 ghost use Rattle.pm_affect.specs.Puts.{place, put_each};
 ghost use Rattle.pm_affect.specs.Right.{AreRight, caps_anew, entries_anew};
-ghost use Rattle.pm_affect.specs.Rows.{has_near, is_near, row, with_each};
+ghost use Rattle.pm_affect.specs.Rows.{ArePassed, has_near, has_row, is_near, row, with_each};
 
 use crate::lists::KeptLists;
 use crate::region::{Region, Row};
+use crate::touching::{Asked, Side, some_near};
 use pm_model::{ElementId, Judge, Memory, PlaceList, Reach, UserList};
 
 /// Some elements, and those of them that are near a region.
@@ -23,7 +23,7 @@ struct Columns<'a> {
     near: &'a PlaceList,
 }
 
-/// Those of the elements that are near.
+/// Those of the elements that are near. They are by rising number, so that 64 cost one question where none of them may be.
 fn near<R: Reach>(region: &Region, elements: &PlaceList, reach: &mut R) -> Result<PlaceList, Memory>
     requires region { RegionLive (R.relation reach.old) region.now }
     requires elements { AllLive (R.relation reach.old) elements.now }
@@ -31,45 +31,30 @@ fn near<R: Reach>(region: &Region, elements: &PlaceList, reach: &mut R) -> Resul
     ensures same { R.relation reach.new ≡ R.relation reach.old }
 {
     let mut near = PlaceList::new(elements.allocator());
+    let mut asked = Asked::nothing();
     for i in 0..elements.len() {
         let element = *elements.at(i);
-        if region.is_near(element, reach) {
+        if region.finds_near(Side::Element, element, &mut asked, reach) {
             near.push(element)?;
         }
     }
     Ok(near)
 }
 
-/// Whether some of the users have a row of those that are near.
-fn some_near<R: Reach>(region: &Region, users: &UserList, reach: &mut R) -> bool
-    requires region { RegionLive (R.relation reach.old) region.now }
-    requires users { AllLive (R.relation reach.old) users.now }
-    ensures answer { result ≡ list_any (has_near (R.relation reach.old).below region.now) users.now }
-    ensures same { R.relation reach.new ≡ R.relation reach.old }
-{
-    for i in 0..users.len() {
-        let row = region.row(*users.at(i), reach);
-        if row.is_near() {
-            return true;
-        }
-    }
-    false
-}
-
-/// Those of the elements that are near, where one of these users has such a row; else none is asked about.
+/// Those of the elements that are near, where a user whose capabilities are kept has such a row; else none is asked about.
 fn near_for<R: Reach>(
     region: &Region,
-    users: &UserList,
+    lists: &KeptLists,
     elements: &PlaceList,
     reach: &mut R,
 ) -> Result<PlaceList, Memory>
     requires region { RegionLive (R.relation reach.old) region.now }
-    requires users { AllLive (R.relation reach.old) users.now }
+    requires users { AllLive (R.relation reach.old) (subjects lists.now.caps) }
     requires elements { AllLive (R.relation reach.old) elements.now }
-    ensures near { IfOk result (λ near. (u : ℕ) → is_among users.now u ≡ true → has_near (R.relation reach.old).below region.now u ≡ true → near ≡ filter (is_near (R.relation reach.old).below region.now) elements.now) }
+    ensures near { IfOk result (λ near. (u : ℕ) → is_among (subjects lists.now.caps) u ≡ true → has_near (R.relation reach.old).below region.now u ≡ true → near ≡ filter (is_near (R.relation reach.old).below region.now) elements.now) }
     ensures same { R.relation reach.new ≡ R.relation reach.old }
 {
-    if some_near(region, users, reach) {
+    if some_near(Side::User, lists.caps(), region, reach) {
         return near(region, elements, reach);
     }
     Ok(PlaceList::new(elements.allocator()))
@@ -101,7 +86,18 @@ fn judge_row<J: Judge>(
     Ok(elements.len() as u64)
 }
 
-/// Does so with those of some elements that lie in the region with the user. Where there are elements, the region is asked for
+/// Whether none of the elements lies in the region with any user, as far as they tell.
+#[tactic(auto, using(crate::proofs::Rows::none_of_all))]
+fn are_none(region: &Region, columns: &Columns) -> bool
+    ensures { result ≡ true → (below : ℕ → ℕ → Bool) (u : ℕ) → (has_near below region.now u ≡ true → columns.now.near.now ≡ filter (is_near below region.now) columns.now.all.now) → row (is_in below region.now) u columns.now.all.now ≡ [] }
+{
+    if region.is_wide() {
+        return columns.all.len() == 0;
+    }
+    columns.near.len() == 0
+}
+
+/// Does so with those of some elements that lie in the region with the user. Where there may be some, the region is asked for
 /// the user once.
 fn judge_columns<J: Judge, R: Reach>(
     lists: &mut KeptLists,
@@ -125,7 +121,7 @@ fn judge_columns<J: Judge, R: Reach>(
     ensures judgement { J.judgement judge.new ≡ J.judgement judge.old }
     ensures same { R.relation reach.new ≡ R.relation reach.old }
 {
-    if columns.all.len() == 0 {
+    if are_none(region, columns) {
         return Ok(0);
     }
     match region.row(user, reach) {
@@ -168,6 +164,41 @@ fn judge_user<J: Judge, R: Reach>(
     judge_columns(lists, region, i, user, places, reach, judge)
 }
 
+/// Does so, unless the user is passed by with the 64 that were asked about at once.
+fn judge_next<J: Judge, R: Reach>(
+    lists: &mut KeptLists,
+    region: &Region,
+    i: usize,
+    user: ElementId,
+    elements: &Columns,
+    places: &Columns,
+    asked: &mut Asked,
+    reach: &mut R,
+    judge: &mut J,
+) -> Result<u64, Memory>
+    requires place { i ≡ place user (subjects lists.old.caps) }
+    requires region { RegionLive (R.relation reach.old) region.now }
+    requires user { IsLive (R.relation reach.old) user }
+    requires judged_user { IsJudged (J.judgement judge.old) user }
+    requires elements { AreJudged (J.judgement judge.old) elements.now.all.now }
+    requires near { is_among (subjects lists.old.caps) user ≡ true → has_near (R.relation reach.old).below region.now user ≡ true → elements.now.near.now ≡ filter (is_near (R.relation reach.old).below region.now) elements.now.all.now }
+    requires places { places.now.all.now ≡ filter (is_among (subjects lists.old.entries)) elements.now.all.now }
+    requires near_places { places.now.near.now ≡ filter (is_near (R.relation reach.old).below region.now) places.now.all.now }
+    requires passed { ArePassed (has_row (R.relation reach.old).below region.now) (R.relation reach.old) asked.old }
+    requires room { J.asked judge.old + length (judged (is_in (R.relation reach.old).below region.now) (in_scope lists.old) (user ∷ []) elements.now.all.now) < 2 ^ 64 }
+    ensures lists { OnOk result (lists.new ≡ put_each (J.judgement judge.old).rights (judged (is_in (R.relation reach.old).below region.now) (in_scope lists.old) (user ∷ []) elements.now.all.now) lists.old) }
+    ensures count { IfOk result (λ n. n ≡ length (judged (is_in (R.relation reach.old).below region.now) (in_scope lists.old) (user ∷ []) elements.now.all.now)) }
+    ensures asked { OnOk result (J.asked judge.new ≡ J.asked judge.old + length (judged (is_in (R.relation reach.old).below region.now) (in_scope lists.old) (user ∷ []) elements.now.all.now)) }
+    ensures passed { ArePassed (has_row (R.relation reach.old).below region.now) (R.relation reach.old) asked.new }
+    ensures judgement { J.judgement judge.new ≡ J.judgement judge.old }
+    ensures same { R.relation reach.new ≡ R.relation reach.old }
+{
+    if region.passes(user, asked, reach) {
+        return Ok(0);
+    }
+    judge_user(lists, region, i, user, elements, places, reach, judge)
+}
+
 /// Does so with each of some users, by rising number, who are met with the kept capabilities as these come.
 fn judge_users<J: Judge, R: Reach>(
     lists: &mut KeptLists,
@@ -194,10 +225,13 @@ fn judge_users<J: Judge, R: Reach>(
 {
     let mut count = 0;
     let mut i = 0;
+    let mut asked = Asked::nothing();
     for n in 0..users.len() {
         let user = *users.at(n);
         i = lists.next_caps(i, user);
-        count += judge_user(lists, region, i, user, elements, places, reach, judge)?;
+        count += judge_next(
+            lists, region, i, user, elements, places, &mut asked, reach, judge,
+        )?;
     }
     Ok(count)
 }
@@ -208,9 +242,10 @@ fn judge_users<J: Judge, R: Reach>(
 ///
 /// It asks the judge once for each pair that lies in the region and in the scope of a kept review, and charges the lists for
 /// these; a list is written to, and copied if it is shared, where rights in it change. Where the region has no pair, or no
-/// review is kept, it returns at once. Else it asks the region once for each subject of a kept review, and for each user where
-/// entries are kept; and once for each element, where a user whose capabilities are kept has only some in it. A question to
-/// the region is one of containment, or as many as the sets of a prohibition have elements.
+/// review is kept, it returns at once. Else it asks the region once for each subject of a kept review, for each user where an
+/// element whose entries are kept may be in it, and for each element where a user whose capabilities are kept has only some in
+/// it; where none of 64 numbers may be in it, once for these. A question to the region is one of containment, or as many as the
+/// sets of a prohibition have elements.
 pub fn update<J: Judge, R: Reach>(
     mut lists: KeptLists,
     region: &Region,
@@ -245,8 +280,7 @@ pub fn update<J: Judge, R: Reach>(
     lists.clear(region)?;
     let places = lists.places()?;
     let near_places = near(region, &places, reach)?;
-    let caps = lists.users()?;
-    let near_elements = near_for(region, &caps, elements, reach)?;
+    let near_elements = near_for(region, &lists, elements, reach)?;
     let elements = Columns {
         all: elements,
         near: &near_elements,

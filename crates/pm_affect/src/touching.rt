@@ -1,4 +1,4 @@
-//! Whether a change touches a kept review at all.
+//! Whether a change touches a kept review at all, and what it passes by.
 
 ghost use Rattle.std.specs.Prelude.{◌≡◌, ◌/◌, ℕ, true, false};
 ghost use Rattle.std.specs.List.{list_any};
@@ -7,7 +7,7 @@ ghost use Rattle.pm_affect.specs.Affected.{is_in};
 ghost use Rattle.pm_affect.specs.Judged.{in_scope};
 ghost use Rattle.pm_affect.specs.Lists.{subjects};
 ghost use Rattle.pm_affect.specs.Live.{RegionLive};
-ghost use Rattle.pm_affect.specs.Rows.{ArePassed, may_touch, near_on};
+ghost use Rattle.pm_affect.specs.Rows.{ArePassed, has_row, may_touch, near_on};
 
 use crate::items::Item;
 use crate::lists::KeptLists;
@@ -19,6 +19,22 @@ use pm_model::{ElementId, Reach};
 pub(crate) enum Side {
     User,
     Element,
+}
+
+/// What was asked last of 64 numbers from 64 k on: whether one of them may be in the region.
+#[derive(Clone, Copy)]
+pub(crate) struct Asked {
+    k: u32,
+    may: bool,
+}
+
+impl Asked {
+    /// Nothing was asked yet.
+    pub(crate) fn nothing() -> Asked
+        ensures { result.may ≡ true }
+    {
+        Asked { k: 0, may: true }
+    }
 }
 
 impl Region {
@@ -36,54 +52,85 @@ impl Region {
     }
 
     /// Whether that may be so of some number from 64 k on, of 64 of them: never no where it is.
+    #[tactic(auto, using(crate::proofs::Rows::no_row_near))]
     fn may_be_near_on<R: Reach>(&self, side: Side, k: u32, reach: &mut R) -> bool
         ensures none { result ≡ false → (x : ℕ) → IsLive (R.relation reach.old) x → x / 64 ≡ k → near_on side (R.relation reach.old).below self.now x ≡ false }
         ensures same { R.relation reach.new ≡ R.relation reach.old }
     {
         match side {
-            Side::User => self.may_have_near(k, reach),
+            Side::User => self.may_have_row(k, reach),
             Side::Element => self.may_be_near(k, reach),
         }
     }
 
+    /// Asks of the 64 numbers from 64 k on, unless they were those that were asked about last.
+    fn ask_about<R: Reach>(&self, side: Side, k: u32, asked: &mut Asked, reach: &mut R)
+        requires { ArePassed (near_on side (R.relation reach.old).below self.now) (R.relation reach.old) asked.old }
+        ensures passed { ArePassed (near_on side (R.relation reach.old).below self.now) (R.relation reach.old) asked.new }
+        ensures block { asked.new.k ≡ k }
+        ensures same { R.relation reach.new ≡ R.relation reach.old }
+    {
+        if asked.k != k {
+            let may = self.may_be_near_on(side, k, reach);
+            *asked = Asked { k, may };
+        }
+    }
+
     /// Whether a user has a row of those that are near, or an element is near; 64 numbers are passed by where none of them may.
-    fn finds_near<R: Reach>(
+    pub(crate) fn finds_near<R: Reach>(
         &self,
         side: Side,
         x: ElementId,
-        passed: &mut Option<u32>,
+        asked: &mut Asked,
         reach: &mut R,
     ) -> bool
         requires region { RegionLive (R.relation reach.old) self.now }
         requires x { IsLive (R.relation reach.old) x }
-        requires passed { ArePassed (near_on side (R.relation reach.old).below self.now) (R.relation reach.old) passed.old }
+        requires passed { ArePassed (near_on side (R.relation reach.old).below self.now) (R.relation reach.old) asked.old }
         ensures answer { result ≡ near_on side (R.relation reach.old).below self.now x }
-        ensures passed { ArePassed (near_on side (R.relation reach.old).below self.now) (R.relation reach.old) passed.new }
+        ensures passed { ArePassed (near_on side (R.relation reach.old).below self.now) (R.relation reach.old) asked.new }
         ensures same { R.relation reach.new ≡ R.relation reach.old }
     {
-        let k = x.number() / 64;
-        if *passed == Some(k) {
+        self.ask_about(side, x.number() / 64, asked, reach);
+        if !asked.may {
             return false;
         }
-        if self.may_be_near_on(side, k, reach) {
-            return self.is_near_on(side, x, reach);
+        self.is_near_on(side, x, reach)
+    }
+
+    /// Whether the user is of 64 of whom none has an element in the region, as far as that is told of all 64 at once.
+    pub(crate) fn passes<R: Reach>(&self, user: ElementId, asked: &mut Asked, reach: &mut R) -> bool
+        requires user { IsLive (R.relation reach.old) user }
+        requires passed { ArePassed (has_row (R.relation reach.old).below self.now) (R.relation reach.old) asked.old }
+        ensures none { result ≡ true → has_row (R.relation reach.old).below self.now user ≡ false }
+        ensures passed { ArePassed (has_row (R.relation reach.old).below self.now) (R.relation reach.old) asked.new }
+        ensures same { R.relation reach.new ≡ R.relation reach.old }
+    {
+        let k = user.number() / 64;
+        if asked.k != k {
+            let may = self.may_have_row(k, reach);
+            *asked = Asked { k, may };
         }
-        *passed = Some(k);
-        false
+        !asked.may
     }
 }
 
 /// Whether some of those that the lists are of have a row of those that are near, or are near. They are by rising number, so
 /// that 64 numbers cost one question where none of them may.
-fn some_near<R: Reach>(side: Side, items: &[Item], region: &Region, reach: &mut R) -> bool
+pub(crate) fn some_near<R: Reach>(
+    side: Side,
+    items: &[Item],
+    region: &Region,
+    reach: &mut R,
+) -> bool
     requires region { RegionLive (R.relation reach.old) region.now }
     requires live { AllLive (R.relation reach.old) (subjects items.now) }
     ensures answer { result ≡ list_any (near_on side (R.relation reach.old).below region.now) (subjects items.now) }
     ensures same { R.relation reach.new ≡ R.relation reach.old }
 {
-    let mut passed = None;
+    let mut asked = Asked::nothing();
     for i in 0..items.len() {
-        if region.finds_near(side, items[i].subject(), &mut passed, reach) {
+        if region.finds_near(side, items[i].subject(), &mut asked, reach) {
             return true;
         }
     }

@@ -26,3 +26,8 @@ pub record Drawn (es : List Element) (assigned : List (ℕ × ℕ)) (rows : List
 
 abbrev pub IsDrawn : Inside → Type 0
 IsDrawn d = Drawn d.elements.elements d.elements.assigned d.rows.rows
+
+-- the rows are of the live elements, and tell the containment of the assignments
+pub record IsTold (d : Shape) (rows : List (List (Option (List ℕ)))) : Type 0 where
+  pub live : (x : ℕ) → has rows x ≡ is_some (element_at d.elements x)
+  pub told : TellContainment d.assigned rows

@@ -3,7 +3,6 @@
 //! all is done, or nothing.
 
 ghost use Rattle.std.specs.Prelude.{◌≡◌, ◌≢◌, ℕ, ◌<◌, ◌==◌, ◌*◌, ◌+◌, ◌/◌, if◌then◌else◌, false, None, OnOk, OnErr, IfOk, IfErr, IfSome, is_some, filter, not, true};
-ghost use Rattle.std.specs.Int.{bit_at};
 ghost use Rattle.std.specs.List.{list_any};
 ghost use Rattle.pm_model.specs.Containment.{contained};
 ghost use Rattle.pm_model.specs.Effect.{max_elements, is_pair, is_from, placed, with_pair, with_assignment, create_checks, assign_checks, deassign_checks, IsCause};
@@ -103,15 +102,6 @@ impl Diagram {
         ensures { result ≡ contained self.now.assigned x y }
     {
         self.rows.contains(x, y)
-    }
-
-    /// Which of the numbers from 64 k on, 64 of them, x is contained in, which is live: bit i is the
-    /// number 64 k + i.
-    pub(crate) fn above(&self, x: ElementId, k: u32) -> u64
-        requires { IsLive self.now.elements x }
-        ensures { (i : ℕ) → i < 64 → (bit_at result i == 1) ≡ contained self.now.assigned x (64 * k + i) }
-    {
-        self.rows.above(x, k)
     }
 
     /// Whether some of the live elements with numbers from 64 k on, 64 of them, may be contained in y. It may say yes where none

@@ -1,27 +1,27 @@
 -- The requests of a sound document that has the forms of lines can be asked for by lines.
-use Rattle.std.proofs.Common.{◌≡◌, ℕ, true, not, List, Option, None, Some, Contains, refl, sym, ◌∙◌, subst, arith}
-use Rattle.pm_laws.proofs.Items.{each-append, each-at, each-from, each-map, filter-contains, find-found}
+use Rattle.std.proofs.Common.{◌≡◌, ℕ, true, List, Option, None, Some, Contains, refl, sym, ◌∙◌, subst, arith}
+use Rattle.pm_laws.proofs.Items.{each-at, each-from, each-map, find-found}
 use Rattle.std.proofs.lemmas.List.Elements.{Contains-append_right}
 use Rattle.pm_document.specs.Forms.{policy_of}
 use Rattle.pm_model.specs.Effect.{may_assign}
 use Rattle.pm_model.specs.Formed.{Each}
 use Rattle.pm_model.specs.declared.elements.Kind.{Kind}
 use Rattle.pm_model.specs.declared.elements.Kind.TheVariants.{User, Ua, Object, Oa, Pc}
-use Rattle.pm_model.specs.declared.requests.Command.TheVariants as command
-use Rattle.pm_policy.specs.Order.{leads_before, order, sorted, stands_before}
+use Rattle.pm_policy.specs.Order.{leads_before}
 use Rattle.pm_policy.specs.Policy.{called, is_assigned, opening_docs, standing}
-use Rattle.pm_policy.specs.Requests.{asked, assign, associate, by_name, commands, create, created_in, first_assignment, is_first, joins_before, others, prohibit, requests}
+use Rattle.pm_policy.specs.Requests.{asked, by_name, commands, created_in, first_assignment, requests}
 use Rattle.pm_policy.specs.Sound.{FitAssigned, IsSound}
 use Rattle.pm_policy.specs.declared.policy.DocAssignment.{DocAssignment}
 use Rattle.pm_policy.specs.declared.policy.DocElement.{DocElement}
 use Rattle.pm_policy.specs.declared.policy.Policy.{Policy}
 use Rattle.pm_policy.proofs.Fitting.{both-called}
-use Rattle.pm_policy.proofs.Ordered.{called-once, ordered-within, same-name}
+use Rattle.pm_policy.proofs.Ordered.{called-once, same-name}
 use Rattle.pm_policy.proofs.Sorted.{has-sorted}
 use Rattle.pm_print.specs.Askable.{IsAskable, IsCommand, IsContained}
 use Rattle.pm_making.specs.Accepted.{Make}
 use Rattle.pm_making.proofs.Accepted.{lines_make}
-use Rattle.pm_document_laws.proofs.Fair.{policy_fair, IsAssignment, IsAssociation, IsElement, IsFair}
+use Rattle.pm_document_laws.proofs.Commands.{each_command}
+use Rattle.pm_document_laws.proofs.Fair.{policy_fair, IsAssignment, IsElement, IsFair}
 
 -- what may be assigned is no class
 no-class : (a b : Kind) → may_assign a b ≡ true → IsContained a
@@ -55,24 +55,7 @@ module _ (D : Policy) (sound : IsSound D) (fair : IsFair D) where
       (kind-fits e p c there (same-name e.name p.from f.1), each-at IsElement D.elements e fair.elements c, (each-at IsAssignment D.assignments p fair.assignments there).1)
 
   all : Each IsCommand (commands D)
-  all = each-append IsCommand _ _
-      (each-append IsCommand _ _
-      (each-append IsCommand _ _
-      (each-append IsCommand _ _
-      (each-map IsCommand command.DefineRight D.rights fair.rights)
-      (each-map IsCommand (create (by_name D)) (order (by_name D) D.elements)
-      (each-from (λ e. IsCommand (create (by_name D) e)) (order (by_name D) D.elements) (λ e c.
-      created e (within e c) (first_assignment (by_name D) e.name) refl))))
-      (each-map IsCommand assign (others D.elements (by_name D))
-      (each-from (λ p. IsCommand (assign p)) (others D.elements (by_name D)) (λ p c.
-      each-at IsAssignment D.assignments p fair.assignments
-      (has-sorted leads_before D.assignments p (filter-contains (λ q. not (is_first D.elements (by_name D) q)) (by_name D) p c).0)))))
-      (each-map IsCommand associate (sorted joins_before D.associations)
-      (each-from (λ a. IsCommand (associate a)) (sorted joins_before D.associations) (λ a c.
-      each-at IsAssociation D.associations a fair.associations (has-sorted joins_before D.associations a c)))))
-      (each-map IsCommand prohibit D.prohibitions fair.prohibitions) where
-        within : (e : DocElement) → Contains (order (by_name D) D.elements) e → Contains D.elements e
-        within e c = has-sorted stands_before D.elements e (ordered-within (by_name D) _ opening_docs (sorted stands_before D.elements) e c)
+  all = each_command D IsCommand fair.rights (λ e c. created e c (first_assignment (by_name D) e.name) refl) fair.assignments fair.associations fair.prohibitions
 
   pub askable : Each IsAskable (requests D)
   askable = each-map IsAskable asked (commands D) (each-from (λ c. IsAskable (asked c)) (commands D) (λ c i. record {

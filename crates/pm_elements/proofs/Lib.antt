@@ -7,6 +7,7 @@ pub mod Held
 pub mod Linking
 pub mod Lists
 pub mod Nexts
+pub mod Numbers
 pub mod Pairs
 pub mod Placing
 pub mod Removing

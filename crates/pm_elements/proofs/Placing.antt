@@ -162,7 +162,7 @@ opened_last n slots h = rw (le-ltb n (length slots) h) refl
 
 -- ---- the first that is free, by runs
 
-run_split : (run xs : List (Option Slot)) → run ≡ take (length run) xs → run ++ drop (length run) xs ≡ xs
+pub run_split : (run xs : List (Option Slot)) → run ≡ take (length run) xs → run ++ drop (length run) xs ≡ xs
 run_split run xs e = ap (λ (l : List (Option Slot)). l ++ drop (length run) xs) e ∙ take-append-drop (length run) xs
 
 free_before : (run rest : List (Option Slot)) → first_free run < length run → first_free (run ++ rest) ≡ first_free run

@@ -6,6 +6,7 @@ mod containers;
 mod errors;
 mod kinds;
 mod links;
+mod listing;
 mod places;
 mod removal;
 mod slots;

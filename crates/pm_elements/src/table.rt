@@ -7,6 +7,7 @@ ghost use Rattle.pm_model.specs.Effect.{max_elements, max_assignments, may_creat
 ghost use Rattle.pm_model.specs.Name.{is_name};
 ghost use Rattle.pm_model.specs.Resolve.{unused};
 ghost use Rattle.pm_model.specs.Results.{first_of};
+ghost use Rattle.pm_model.specs.Reviews.{numbers_in, users_in};
 ghost use Rattle.pm_elements.specs.Told.{told, IsCycleOf};
 ghost use Rattle.pm_elements.specs.Checks.{add_checks, remove_checks, least_from};
 ghost use Rattle.pm_model.specs.State.{element, element_at, is_named, is_numbered, number_named, name_numbered, opening_elements, opening_assigned};
@@ -16,13 +17,14 @@ ghost use Rattle.pm_model.specs.declared.elements.Element.{Element};
 use crate::errors::ElementsError;
 use crate::kinds::{both_may_assign, may_create};
 use crate::links::{link, unlink};
+use crate::listing::{Which, list_numbers};
 use crate::places::{NewElement, least_free, open_slot, place};
 use crate::removal::take_out;
 use crate::slots::{
     Slots, child_count, has_parent, is_taken, next_taken, no_slots, parent_at, parent_count,
     taken_slot,
 };
-use pm_model::{ElementId, Kind, Memory, Name, NameOf, Parents, Reach};
+use pm_model::{ElementId, Kind, Memory, Name, NameOf, Parents, PlaceList, Reach, UserList};
 use pm_names::Names;
 use pm_search::PathReach;
 use std::alloc::Global;
@@ -300,6 +302,22 @@ impl Elements {
         ensures few { IfSome result (λ n. n < max_elements) }
     {
         next_taken(&self.slots, from)
+    }
+
+    /// The numbers of all live elements, by rising number: a look at each slot, and memory for the list alone.
+    #[tactic(auto, using(crate::proofs::Numbers::all_numbers))]
+    pub fn numbers(&self) -> Result<PlaceList, Memory>
+        ensures { IfOk result (λ list. list ≡ numbers_in self.now.elements) }
+    {
+        list_numbers(&self.slots, Which::All, self.live)
+    }
+
+    /// Those of the live users, at the same cost.
+    #[tactic(auto, using(crate::proofs::Numbers::user_numbers))]
+    pub fn users(&self) -> Result<UserList, Memory>
+        ensures { IfOk result (λ list. list ≡ users_in self.now.elements) }
+    {
+        list_numbers(&self.slots, Which::Users, 0)
     }
 
     /// The number that the next new element takes: the least that no live element has.

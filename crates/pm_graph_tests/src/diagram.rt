@@ -2,15 +2,16 @@
 
 ghost use Rattle.pm_model.specs.Formed.{IsLive};
 
+use crate::elements::{live_in, named};
 use pm_diagram::Diagram;
 use pm_elements::ElementsError;
-use pm_model::{ElementId, Kind, Name, Reach};
+use pm_model::{ElementId, Kind, Reach};
 use std::alloc::Global;
 use std::process::Abort;
 use std::test::Fail;
 
 #[derive(Clone, Copy)]
-enum Call {
+pub(crate) enum Call {
     Class,
     User,
     Ua,
@@ -21,17 +22,10 @@ enum Call {
     Remove,
 }
 
-fn named(rt: &impl Abort, text: &str) -> Name {
-    Name::new(text.as_bytes()).expect(rt, "a name")
-}
-
 fn live_named(rt: &impl Abort, diagram: &Diagram, text: &str) -> ElementId
     ensures { IsLive diagram.now.elements result }
 {
-    let table = diagram.elements();
-    let id = table.find(named(rt, text)).expect(rt, "a live element");
-    assert!(rt; table.live(id));
-    id
+    live_in(rt, diagram.elements(), text)
 }
 
 fn create(
@@ -121,10 +115,14 @@ fn is_in(rt: &impl Abort, diagram: &Diagram, first: &str, second: &str) -> bool 
     reach.contains(x, y)
 }
 
-type Row = (Call, &'static str, &'static str);
+pub(crate) type Row = (Call, &'static str, &'static str);
 
 /// Makes these changes, each of which is accepted.
-fn made(rt: &impl Abort, diagram: &mut Diagram, rows: &[Row]) -> Result<(), ElementsError> {
+pub(crate) fn made(
+    rt: &impl Abort,
+    diagram: &mut Diagram,
+    rows: &[Row],
+) -> Result<(), ElementsError> {
     for (call, first, second) in rows {
         apply(rt, diagram, *call, first, second)?;
     }
@@ -141,7 +139,7 @@ static POLICY: &[Row] = &[
     (Call::Object, "memo", "docs"),
 ];
 
-fn policy(rt: &impl Abort, alloc: Global) -> Result<Diagram, ElementsError> {
+pub(crate) fn policy(rt: &impl Abort, alloc: Global) -> Result<Diagram, ElementsError> {
     let mut diagram = Diagram::opening(alloc)?;
     made(rt, &mut diagram, POLICY)?;
     Ok(diagram)
@@ -157,6 +155,7 @@ fn tried(rt: &impl Abort, diagram: &mut Diagram, row: &Row) -> (&'static str, u6
 }
 
 static CHANGES: &[(Row, &str, u64)] = &[
+    ((Call::Class, "files", ""), "name taken", 0),
     ((Call::User, "eve", "docs"), "bad kinds", 0),
     ((Call::Ua, "ann", "files"), "name taken", 0),
     ((Call::Ua, "team", "files"), "ok", 0),
@@ -170,15 +169,19 @@ static CHANGES: &[(Row, &str, u64)] = &[
     ((Call::Remove, "memo", ""), "ok", 0),
 ];
 
+fn check_changes(rt: &impl Abort, diagram: &mut Diagram) {
+    for (row, want, written) in CHANGES {
+        let (_, first, second) = row;
+        let told = tried(rt, diagram, row);
+        assert_eq!(rt; told, (*want, *written), "{first} {second}");
+    }
+}
+
 // An assignment made or taken away writes the rows of all that is contained in the element assigned.
 #[test]
 fn changes_and_rows_written(rt: HostRuntime) -> Result<(), Fail> {
     let mut diagram = policy(&rt, rt.alloc())?;
-    for (row, want, written) in CHANGES {
-        let (_, first, second) = row;
-        let told = tried(&rt, &mut diagram, row);
-        assert_eq!(rt; told, (*want, *written), "{first} {second}");
-    }
+    check_changes(&rt, &mut diagram);
     assert!(rt; is_in(&rt, &diagram, "ann", "files"));
     Ok(())
 }
@@ -208,33 +211,40 @@ static CONTAINED: &[(Row, &str, &str, bool)] = &[
     ((Call::Oa, "notes", "files"), "notes", "docs", false),
 ];
 
-#[test]
-fn containment_after_each_change(rt: HostRuntime) -> Result<(), Fail> {
-    let mut diagram = policy(&rt, rt.alloc())?;
+fn check_contained(rt: &impl Abort, diagram: &mut Diagram) -> Result<(), ElementsError> {
     for (row, x, y, want) in CONTAINED {
-        let told = is_in_after(&rt, &mut diagram, row, x, y)?;
+        let told = is_in_after(rt, diagram, row, x, y)?;
         assert_eq!(rt; told, *want, "{x} in {y}");
     }
     Ok(())
 }
 
+#[test]
+fn containment_after_each_change(rt: HostRuntime) -> Result<(), Fail> {
+    let mut diagram = policy(&rt, rt.alloc())?;
+    check_contained(&rt, &mut diagram)?;
+    Ok(())
+}
+
+fn check_refused(rt: &impl Abort, answer: Result<(), ElementsError>, want: &str) {
+    assert_eq!(rt; word(answer), want);
+}
+
 // What would be refused: a user in `docs`, `docs` in itself, `memo` without a container, no `docs`.
-fn refusals(rt: &impl Abort, diagram: &Diagram) -> [&'static str; 4] {
+fn check_refusals(rt: &impl Abort, diagram: &Diagram) {
     let docs = live_named(rt, diagram, "docs");
     let memo = live_named(rt, diagram, "memo");
-    [
-        word(diagram.check_create(Kind::User, named(rt, "eve"), Some(docs))),
-        word(diagram.check_assign(docs, docs)),
-        word(diagram.check_deassign(memo, docs)),
-        word(diagram.check_remove(docs)),
-    ]
+    let user = diagram.check_create(Kind::User, named(rt, "eve"), Some(docs));
+    check_refused(rt, user, "bad kinds");
+    check_refused(rt, diagram.check_assign(docs, docs), "cycle");
+    check_refused(rt, diagram.check_deassign(memo, docs), "last container");
+    check_refused(rt, diagram.check_remove(docs), "occupied");
 }
 
 #[test]
 fn what_would_be_refused(rt: HostRuntime) -> Result<(), Fail> {
     let diagram = policy(&rt, rt.alloc())?;
-    let want = ["bad kinds", "cycle", "last container", "occupied"];
-    assert_eq!(rt; refusals(&rt, &diagram), want);
+    check_refusals(&rt, &diagram);
     Ok(())
 }
 
@@ -251,12 +261,25 @@ fn moved_copy(rt: &impl Abort, diagram: &Diagram) -> Result<Diagram, ElementsErr
     Ok(other)
 }
 
+// `team` is in the copy alone.
+fn check_team(rt: &impl Abort, diagram: &Diagram, copy: &Diagram) {
+    let team = named(rt, "team");
+    assert!(rt; diagram.elements().find(team).is_none());
+    assert!(rt; copy.elements().find(team).is_some());
+}
+
+// `ann` has moved in the copy alone.
+fn check_moved(rt: &impl Abort, diagram: &Diagram, copy: &Diagram) {
+    assert!(rt; is_in(rt, diagram, "ann", "staff"));
+    assert!(rt; !is_in(rt, copy, "ann", "staff"));
+}
+
 #[test]
 fn a_copy_goes_its_own_way(rt: HostRuntime) -> Result<(), Fail> {
     let mut diagram = policy(&rt, rt.alloc())?;
     diagram.share()?;
     let other = moved_copy(&rt, &diagram)?;
-    assert!(rt; is_in(&rt, &diagram, "ann", "staff"));
-    assert!(rt; !is_in(&rt, &other, "ann", "staff"));
+    check_team(&rt, &diagram, &other);
+    check_moved(&rt, &diagram, &other);
     Ok(())
 }

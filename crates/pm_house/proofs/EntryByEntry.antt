@@ -4,11 +4,10 @@ use Rattle.std.specs.Prelude.{Option, IfSome, IsSome, slice_get, slice_index, re
 use Rattle.std.proofs.lemmas.Bool.{cases_eq}
 use Rattle.std.proofs.lemmas.List.{get_or-replicate, length-replicate, append-nil, append_assoc, take_more}
 use Rattle.pm_model.specs.State.{State, Graph}
-use Rattle.pm_model.specs.Answer.{Answer, answer}
+use Rattle.pm_model.specs.Answer.{answer}
 use Rattle.pm_model.specs.History.{Machine, IsReplayed, opening_machine, replay, state_of}
 use Rattle.pm_model.specs.declared.requests.Entry.{Entry}
 use Rattle.pm_model.specs.declared.requests.Request.{Request}
-use Rattle.pm_model.specs.declared.replies.Reply.{Reply}
 use Rattle.pm_world.specs.Restored.{IsNext, AreNext, IsMade}
 use Rattle.pm_world.specs.Seats.{count_by_seat}
 use Rattle.pm_house.specs.Lanes.{Laned, lane, entry_by}
@@ -98,12 +97,12 @@ count_room counts h g e most counted is short =
     omega (arith, counted, fits)
 
 -- the desk's next entry, which the machine accepts
-pub next_at_desk : (seats : ℕ) (M : Machine) (l : Laned) (r : Request) (reply : Reply) (S : State) → IsReplayed M → l.seat < seats
-    → l.share ≡ count_by_seat l.seat M.history → answer (state_of M) r ≡ record { reply = reply; next = Some S } → IsNext seats M.history (entry_by l r)
-next_at_desk seats M l r reply S replayed within share is = record {
+pub next_at_desk : (seats : ℕ) (M : Machine) (l : Laned) (r : Request) → IsReplayed M → l.seat < seats → l.share ≡ count_by_seat l.seat M.history
+    → IsSome (answer (state_of M) r).next → IsNext seats M.history (entry_by l r)
+next_at_desk seats M l r replayed within share accepted = record {
   seat = within;
   number = ap (λ (n : ℕ). n + 1) share;
-  accepted = subst (λ (T : State). IsSome (answer T r).next) (sym replayed.content) (subst (λ (a : Answer). IsSome a.next) (sym is) refl);
+  accepted = subst (λ (S : State). IsSome (answer S r).next) (sym replayed.content) accepted;
 }
 
 -- ---- the entries so far

@@ -1,14 +1,14 @@
 //! The desk.
 
-ghost use Rattle.std.specs.Prelude.{◌≡◌, ◌<◌, ◌≤◌, ◌+◌, length, take, option_map, OnOk, OnErr, IfOk, IfSome, MatchBool};
+ghost use Rattle.std.specs.Prelude.{◌≡◌, ◌<◌, ◌≤◌, ◌+◌, ◌++◌, ◌∷◌, [], IsSome, length, take, option_map, OnOk, OnErr, IfOk, IfSome, MatchBool};
 ghost use mathlib.Core.List.{IsPrefix};
 ghost use Rattle.pm_machine.specs.Answered.{IsStep};
-ghost use Rattle.pm_model.specs.Answer.{longest_history};
+ghost use Rattle.pm_model.specs.Answer.{answer, longest_history};
 ghost use Rattle.pm_model.specs.Causes.{HasKeepCause};
-ghost use Rattle.pm_model.specs.History.{opening_machine};
+ghost use Rattle.pm_model.specs.History.{opening_machine, state_of};
 ghost use Rattle.pm_world.specs.Restored.{IsMade};
 ghost use Rattle.pm_world.specs.Seats.{count_by_seat};
-ghost use Rattle.pm_house.specs.Lanes.{entry_by};
+ghost use Rattle.pm_house.specs.Lanes.{entry_by, lane as laned};
 ghost use Rattle.pm_house.specs.Desks.{IsDesk, Comes, HasFaultCause, reply_told};
 
 use crate::home::Home;
@@ -120,10 +120,22 @@ fn keep_last<V: Version, K: Keep>(keeper: &mut K, at: u64, next: &V) -> Result<(
 // Before any entry there is one version, and whoever holds a version of no entry holds it.
 #[tactic(auto, using(crate::proofs::Counting::empty_is_opening))]
 fn shows_opening<V: Version, H: Home>(viewer: &Viewer<V, H>) -> bool
-    ensures { MatchBool result (V.machine viewer.now.shown ≡ opening_machine) (Unit {0}) }
+    ensures { MatchBool result (V.machine viewer.now.shown ≡ opening_machine) (0 < length (V.machine viewer.now.shown).history) }
 {
     viewer.shown().known();
     viewer.shown().version() == 0
+}
+
+// Another pointer to this version, as soon as it can be counted.
+fn another<V: Version, H: Home, R: Wait>(rt: &R, latest: &Sealed<V, H>) -> Sealed<V, H>
+    ensures { result ≡ latest.now }
+{
+    for _ in rt.forever() {
+        if let Ok(version) = latest.another() {
+            return version;
+        }
+    }
+    unreachable!()
 }
 
 impl<V: Version, K: Keep + Drop, H: Home> Desk<V, K, H> {
@@ -185,30 +197,27 @@ impl<V: Version, K: Keep + Drop, H: Home> Desk<V, K, H> {
         let _counts = &self.counts;
     }
 
-    // Tells a viewer the version that is published. False where what it holds is longer, or there are as many pointers
-    // to the version as can be counted: then it is as before.
-    pub(crate) fn tell(&self, viewer: &mut Viewer<V, H>) -> bool
-        ensures { MatchBool result ((V.machine viewer.new.shown ≡ self.now.0) × IsPrefix (V.machine viewer.old.shown).history (V.machine viewer.new.shown).history) (viewer.new ≡ viewer.old) }
+    // Tells a viewer the version that is published, as soon as a pointer to it can be counted. False exactly where what it holds
+    // is longer: then it is as before.
+    pub(crate) fn tell<R: Wait>(&self, rt: &R, viewer: &mut Viewer<V, H>) -> bool
+        ensures { MatchBool result
+            ((V.machine viewer.new.shown ≡ self.now.0) × IsPrefix (V.machine viewer.old.shown).history (V.machine viewer.new.shown).history)
+            ((viewer.new ≡ viewer.old) × (length self.now.0.history < length (V.machine viewer.old.shown).history)) }
     {
         match &self.latest {
             None => shows_opening(viewer),
-            Some(latest) => match latest.another() {
-                Ok(version) => viewer.told(version),
-                Err(Memory) => false,
-            },
+            Some(latest) => viewer.told(another(rt, latest)),
         }
     }
 
-    // Tells a viewer the version that is published, as soon as that can be.
+    // Tells a viewer, which holds no longer version, the one that is published.
     pub(crate) fn show<R: Wait>(&self, rt: &R, viewer: &mut Viewer<V, H>)
+        requires { length (V.machine viewer.old.shown).history ≤ length self.now.0.history }
         ensures { V.machine viewer.new.shown ≡ self.now.0 }
     {
-        for _ in rt.forever() {
-            if self.tell(viewer) {
-                return;
-            }
+        if !self.tell(rt, viewer) {
+            unreachable!()
         }
-        unreachable!()
     }
 
     // What the machine makes of the request, as the next entry of the lane.
@@ -226,6 +235,36 @@ impl<V: Version, K: Keep + Drop, H: Home> Desk<V, K, H> {
     }
 
     // Publishes the next version, once its last entry is kept. All memory is taken before the keeper is asked.
+    fn publish<R: Wait>(
+        &mut self,
+        rt: &R,
+        alloc: Global,
+        lane: &mut Lane<H>,
+        request: &Request,
+        next: V,
+    ) -> Result<(), KeepError>
+        requires share { lane.old.share ≡ count_by_seat lane.old.seat self.old.0.history }
+        requires accepted { IsSome (answer (state_of self.old.0) request.now).next }
+        requires grown { (V.machine next).history ≡ self.old.0.history ++ entry_by lane.old request.now ∷ [] }
+        ensures ok { OnOk result ((self.new.0 ≡ V.machine next) × (lane.new ≡ laned lane.old.seat (lane.old.share + 1))) }
+        ensures err { OnErr result ((self.new.0 ≡ self.old.0) × (lane.new ≡ lane.old)) }
+        ensures cause { HasKeepCause (K.faults self.old.1) (K.faults self.new.1) result }
+    {
+        let _made = self.number_of(lane.seat());
+        self.shown().known();
+        let at = self.shown().version();
+        let Ok(next) = ready(alloc, next) else {
+            return Err(KeepError::Memory);
+        };
+        let _next = next.version().version();
+        keep_last(&mut self.keeper, at, next.version())?;
+        self.latest = Some(self.publisher.publish(rt, next));
+        lane.enter(&mut self.book);
+        count(&mut self.counts, lane.seat());
+        Ok(())
+    }
+
+    // What comes of a request that the machine accepts by this reply.
     fn enter<R: Wait>(
         &mut self,
         rt: &R,
@@ -242,20 +281,11 @@ impl<V: Version, K: Keep + Drop, H: Home> Desk<V, K, H> {
         ensures err { OnErr result ((self.new.0 ≡ self.old.0) × (lane.new ≡ lane.old)) }
         ensures calm { OnErr result (K.faults self.new.1 ≡ K.faults self.old.1) }
     {
-        let _made = self.number_of(lane.seat());
-        self.shown().known();
-        let at = self.shown().version();
-        let next = ready(alloc, next)?;
-        let _next = next.version().version();
-        match keep_last(&mut self.keeper, at, next.version()) {
-            Ok(()) => {}
-            Err(KeepError::Failed) => return Ok(Outcome::Fault),
-            Err(KeepError::Memory) => return Err(Memory),
+        match self.publish(rt, alloc, lane, request, next) {
+            Ok(()) => Ok(Outcome::Entered(reply)),
+            Err(KeepError::Failed) => Ok(Outcome::Fault),
+            Err(KeepError::Memory) => Err(Memory),
         }
-        self.latest = Some(self.publisher.publish(rt, next));
-        lane.enter(&mut self.book);
-        count(&mut self.counts, lane.seat());
-        Ok(Outcome::Entered(reply))
     }
 
     // What comes of the request.

@@ -4,7 +4,7 @@ ghost use Rattle.std.specs.Prelude.{◌≡◌, ◌≢◌, length, true, IsOk, If
 ghost use Rattle.pm_machine.specs.Asking.{asks_freely};
 ghost use Rattle.pm_world.specs.Seats.{count_by_seat};
 ghost use Rattle.pm_house.specs.Desks.{NeverFails};
-ghost use Rattle.pm_house.specs.Seated.{seated, IsSeat, Looks, Rests, ShowOneHistory, Submits};
+ghost use Rattle.pm_house.specs.Seated.{seated, IsSeat, Looks, Rests, ShowOneHistory, StandsApart, Submits};
 
 use crate::desk::{Desk, Submitted};
 use crate::home::Home;
@@ -168,18 +168,20 @@ impl<V: Version, H: Home> Seat<V, H> {
         self.shown().version()
     }
 
-    // The desk tells the seat its version, whose history is then its front, up to the mark. False where the seat has made
-    // entries of which the desk doesn't know, or can't be told now: then it is as before.
-    pub(crate) fn catch_up<K: Keep + Drop>(&mut self, desk: &Desk<V, K, H>) -> bool
+    // The desk tells the seat its version, whose history is then its front, up to the mark. False exactly where the seat stands
+    // apart from the desk: then it is as before.
+    pub(crate) fn catch_up<K: Keep + Drop, R: Wait>(&mut self, rt: &R, desk: &Desk<V, K, H>) -> bool
         ensures rests { Rests self.old self.new }
-        ensures there { MatchBool result (self.new ≡ seated self.old.lane (length desk.now.0.history) desk.now.0) (self.new ≡ self.old) }
+        ensures there { MatchBool result
+            (self.new ≡ seated self.old.lane (length desk.now.0.history) desk.now.0)
+            ((self.new ≡ self.old) × StandsApart desk.now.0 self.old) }
     {
         self.viewer.shown().known();
         desk.shown().known();
         if desk.number_of(self.lane.seat()) != self.lane.made() {
             return false;
         }
-        if !desk.tell(&mut self.viewer) {
+        if !desk.tell(rt, &mut self.viewer) {
             return false;
         }
         self.mark = desk.shown().version();
@@ -212,25 +214,24 @@ impl<V: Version, H: Home> Seat<V, H> {
         })
     }
 
-    // One try. None where the desk can't tell the seat its version now.
+    // Asks the desk, once it has told the seat its version. None exactly where the seat stands apart from it.
     #[tactic(auto, using(crate::proofs::Sitting::rests_then, crate::proofs::Sitting::rests_submits))]
     fn attempt<K: Keep + Drop, R: Threads + Wait + Sync>(
         &mut self,
         rt: &R,
         alloc: Global,
-        house: &House<V, K, H>,
+        desk: &mut Desk<V, K, H>,
         request: &Request,
     ) -> Result<Option<Replied>, Memory>
         ensures some { IfOk result (λ o. IfSome o (λ r. Submits self.old self.new request.now r.reply r.version)) }
-        ensures none { IfOk result (λ o. IfNone o (Rests self.old self.new)) }
+        ensures none { IfOk result (λ o. IfNone o (Rests self.old self.new × StandsApart desk.old.0 self.old)) }
         ensures calm { IfOk result (λ o. IfSome o (λ r. NeverFails K.faults → r.reply ≢ Reply.KeepFault)) }
         ensures err { OnErr result (Rests self.old self.new) }
     {
-        let mut desk = house.desk.lock(rt);
-        if !self.catch_up(&desk) {
+        if !self.catch_up(rt, desk) {
             return Ok(None);
         }
-        let replied = self.ask(rt, alloc, &mut desk, request)?;
+        let replied = self.ask(rt, alloc, desk, request)?;
         Ok(Some(replied))
     }
 
@@ -252,7 +253,8 @@ impl<V: Version, H: Home> Seat<V, H> {
     {
         self.still();
         for _ in rt.forever() {
-            if let Some(replied) = self.attempt(rt, alloc, house, request)? {
+            let mut desk = house.desk.lock(rt);
+            if let Some(replied) = self.attempt(rt, alloc, &mut desk, request)? {
                 return Ok(replied);
             }
         }

@@ -1,18 +1,15 @@
-//! Houses of one and two seats, with answers worked out by hand.
+//! Houses of two seats, with answers worked out by hand.
 
-ghost use Rattle.std.specs.Prelude.{◌≡◌, ◌<◌, ◌≤◌, [], IfSome};
+ghost use Rattle.std.specs.Prelude.{◌≡◌};
 
 mod asking;
 mod restoring;
 
-use asking::{
-    Ask, Told, fault_at, is_seen, is_told, letter, never_falls, policy, request, start_processes,
-};
+use asking::{Ask, Told, is_seen, is_told, never_falls, policy, request, start_processes};
 use crossbeam_utils::rule::Protocol;
 use pm_house::{Home, House, Seat, Seats, house_room};
-use pm_io::{MemKeep, NoKeep};
+use pm_io::NoKeep;
 use pm_machine::Version;
-use pm_model::Keep;
 use pm_publish::{Glimpse, NeverBack, Opened, Sealed};
 use pm_step::Edition;
 use std::alloc::Global;
@@ -23,19 +20,16 @@ use std::sync::ledger::Blank;
 use std::thread;
 use std::thread::Threads;
 
-fn house_of<K: Keep + Drop, H: Home, R: Abort + Alloc<A = Global>>(
+fn house_of_two<H: Home, R: Abort + Alloc<A = Global>>(
     rt: &R,
     opened: Opened,
     blank: Blank,
-    keeper: K,
-    seats: u32,
-) -> (House<Edition, K, H>, Seats<Edition, H>)
+) -> (House<Edition, NoKeep, H>, Seats<Edition, H>)
     requires room { opened ≡ H.book }
     requires ledger { (blank.name ≡ H.name) × (blank.parts ≡ H.parts) }
-    requires seats { (0 < seats) × (seats ≤ 32) × (H.all ≡ seats) × (H.parts ≡ seats) }
-    requires keeper { IfSome (K.kept keeper) (λ es. es ≡ []) }
+    requires seats { (H.all ≡ 2) × (H.parts ≡ 2) }
 {
-    House::open(rt.alloc(), opened, blank, keeper, seats).expect(rt, "memory")
+    House::open(rt.alloc(), opened, blank, NoKeep, 2).expect(rt, "memory")
 }
 
 fn policy_of_a_stranger<H: Home, R: Threads + Wait + Abort + Alloc<A = Global> + Sync>(
@@ -47,7 +41,7 @@ fn policy_of_a_stranger<H: Home, R: Threads + Wait + Abort + Alloc<A = Global> +
     requires ledger { (blank.name ≡ H.name) × (blank.parts ≡ H.parts) }
     requires seats { (H.all ≡ 2) × (H.parts ≡ 2) }
 {
-    let (house, mut seats) = house_of::<NoKeep, H, R>(rt, opened, blank, NoKeep, 2);
+    let (house, mut seats) = house_of_two::<H, R>(rt, opened, blank);
     let mut one = seats.seat(0).expect(rt, "seat 0");
     let mut two = seats.seat(1).expect(rt, "seat 1");
     assert!(rt; seats.seat(0).is_none() && seats.seat(2).is_none());
@@ -85,64 +79,6 @@ fn read_as_denied<H: Home, R: Threads + Wait + Abort + Alloc<A = Global> + Sync>
 fn a_stranger_is_told_of_the_policy(rt: HostRuntime) {
     let (opened, blank) = house_room(2);
     policy_of_a_stranger::<Brand, _>(&rt, opened, blank)
-}
-
-// How many seats of 40 places are given.
-fn given<H: Home>(rt: &impl Abort, seats: &mut Seats<Edition, H>) -> u32 {
-    let mut given = 0u32;
-    for place in 0..40u32 {
-        if let Some(seat) = seats.seat(place) {
-            assert_eq!(rt; seat.number(), place);
-            given = given.wrapping_add(1);
-        }
-    }
-    given
-}
-
-fn many_seats<H: Home, R: Abort + Alloc<A = Global>>(rt: &R, opened: Opened, blank: Blank)
-    requires room { opened ≡ H.book }
-    requires ledger { (blank.name ≡ H.name) × (blank.parts ≡ H.parts) }
-    requires seats { (H.all ≡ 32) × (H.parts ≡ 32) }
-{
-    let (_house, mut seats) = house_of::<NoKeep, H, R>(rt, opened, blank, NoKeep, 32);
-    assert_eq!(rt; given(rt, &mut seats), 32);
-    assert_eq!(rt; given(rt, &mut seats), 0);
-}
-
-#[test]
-fn each_seat_of_32_is_given_once(rt: HostRuntime) {
-    let (opened, blank) = house_room(32);
-    many_seats::<Brand, _>(&rt, opened, blank)
-}
-
-fn keeper_fails<H: Home, R: Threads + Wait + Abort + Alloc<A = Global> + Sync>(
-    rt: &R,
-    opened: Opened,
-    blank: Blank,
-    failing: u64,
-)
-    requires room { opened ≡ H.book }
-    requires ledger { (blank.name ≡ H.name) × (blank.parts ≡ H.parts) }
-    requires seats { (H.all ≡ 1) × (H.parts ≡ 1) }
-{
-    let keeper = MemKeep::new(rt.alloc(), &[failing]).expect(rt, "memory");
-    let (house, mut seats) = house_of::<MemKeep, H, R>(rt, opened, blank, keeper, 1);
-    let mut seat = seats.seat(0).expect(rt, "seat 0");
-    for entries in 0..3 {
-        if entries + 1 == failing {
-            fault_at(rt, &house, &mut seat, entries);
-        }
-        let class = request(rt, Ask::Class(letter(entries)));
-        is_told(rt, &house, &mut seat, &class, Told::Done, entries + 1);
-    }
-}
-
-#[test]
-fn what_cannot_be_kept_is_no_entry(rt: HostRuntime) {
-    for failing in 1..=3 {
-        let (opened, blank) = house_room(1);
-        keeper_fails::<Brand, _>(&rt, opened, blank, failing)
-    }
 }
 
 // A caller in a thread of its own: how often it starts a process, and how often it looks.
@@ -239,7 +175,7 @@ fn two_callers<H: Home + Send + Sync, R: Threads + Wait + Abort + Alloc<A = Glob
     requires ledger { (blank.name ≡ H.name) × (blank.parts ≡ H.parts) }
     requires seats { (H.all ≡ 2) × (H.parts ≡ 2) }
 {
-    let (house, mut seats) = house_of::<NoKeep, H, R>(rt, opened, blank, NoKeep, 2);
+    let (house, mut seats) = house_of_two::<H, R>(rt, opened, blank);
     let one = seats.seat(0).expect(rt, "seat 0");
     let two = seats.seat(1).expect(rt, "seat 1");
     beside_one_another(rt, &house, one, two);

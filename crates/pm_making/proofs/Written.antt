@@ -6,7 +6,7 @@ use Rattle.std.proofs.lemmas.List.{append-nil, take_more}
 use Rattle.std.proofs.Math.Seq.{take-append_seam, take-length}
 use Rattle.pm_model.specs.declared.requests.Command.{Command}
 use Rattle.pm_model.specs.declared.requests.Command.TheVariants as command
-use Rattle.pm_order.specs.Keyed.{association_in}
+use Rattle.pm_by_name.specs.Keyed.{association_in}
 use Rattle.pm_policy.specs.Order.{order, sorted}
 use Rattle.pm_policy.specs.Requests.{asked, assign, associate, by_name, create, joins_before, others, prohibit}
 use Rattle.pm_policy.specs.declared.policy.Policy.{Policy}

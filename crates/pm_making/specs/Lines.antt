@@ -10,7 +10,7 @@ use Rattle.pm_policy.specs.declared.policy.Policy.{Policy}
 use Rattle.pm_print.specs.Requested.{request_text}
 use Rattle.pm_making.specs.declared.lines.Parts.{Parts}
 use Rattle.pm_making.specs.declared.requests.Creation.{Creation}
-use Rattle.pm_order.specs.Keyed.{association_in}
+use Rattle.pm_by_name.specs.Keyed.{association_in}
 
 -- the lines of these, one after another, without ids
 abbrev pub lines_of : List Command → List ℕ

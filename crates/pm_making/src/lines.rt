@@ -7,8 +7,9 @@ ghost use Rattle.pm_policy.specs.Sound.{IsSound};
 use crate::assignments::Assignments;
 use crate::requests::Creation;
 use crate::writing::{whole_or_none, write_all, write_associations};
+use pm_by_name::{assignments_by_name, associations_by_name};
 use pm_model::Memory;
-use pm_order::{Places, assignments_by_name, associations_by_name, order};
+use pm_order::{Places, order};
 use pm_policy::{DocAssignment, Policy};
 use std::alloc::Global;
 

@@ -2,7 +2,7 @@
 
 ghost use Rattle.std.specs.Prelude.{◌≡◌, ℕ, ◌<◌, ◌++◌, length, map, take, Contains, None, OnOk, OnErr};
 ghost use Rattle.pm_making.specs.Lines.{lines_of};
-ghost use Rattle.pm_order.specs.Keyed.{association_in};
+ghost use Rattle.pm_by_name.specs.Keyed.{association_in};
 ghost use Rattle.pm_policy.specs.Requests.{asked, associate};
 ghost use Rattle.pm_print.specs.Requested.{request_text};
 

@@ -1,5 +1,5 @@
-pub mod ByName
-pub mod Keyed
+pub mod Children
+pub mod Free
 pub mod Least
 pub mod Placed
 pub mod Ranks

@@ -1,21 +1,22 @@
 -- Elements of different names at their places.
-use Rattle.std.proofs.Common.{zero, suc, ◌≡◌, ◌<◌, ◌+◌, ℕ, Bool, true, false, List, [], ◌∷◌, ◌++◌, length, map, filter, get_or, slice_set, Contains, inl, inr, refl, sym, ◌∙◌, ap, subst, arith, bytes_eq, take, replicate, if◌then◌else◌}
+use Rattle.std.proofs.Common.{zero, suc, ◌≡◌, ◌<◌, ◌+◌, ℕ, true, false, List, [], ◌∷◌, ◌++◌, length, map, filter, get_or, slice_set, Contains, inl, inr, refl, sym, ◌∙◌, ap, subst, arith, bytes_eq, take, replicate, if◌then◌else◌}
 use Rattle.std.specs.List.{list_any, position_or_len}
 use Rattle.std.proofs.lemmas.Bool.{cases_Bool, cond_both}
-use Rattle.std.proofs.lemmas.List.{get_or_default, map-append}
+use Rattle.std.proofs.lemmas.List.{get_or_default, length-map, map-append}
 use Rattle.std.proofs.lemmas.List.Elements.{filter-append}
 use Rattle.std.proofs.lemmas.Slice.Eq.{bytes_eq-Decides}
 use Rattle.indexmap.specs.IndexSet.{insert_key}
-use Rattle.pm_laws.proofs.Items.{contains-first, contains-rest, none-at}
+use Rattle.pm_laws.proofs.Items.{contains-first, contains-none, contains-rest, filter-contains, none-at}
 use Rattle.pm_laws.proofs.Names.{other-swapped}
 use Rattle.pm_policy.specs.Order.{is_made}
 use Rattle.pm_model.specs.declared.elements.Kind.TheVariants.{Pc}
 use Rattle.pm_policy.specs.Policy.{doc_element, is_assigned, is_called}
 use Rattle.pm_policy.specs.Sound.{AreOnceCalled}
+use Rattle.pm_policy.specs.Waiting.{AreKnown}
 use Rattle.pm_policy.specs.declared.policy.DocElement.{DocElement}
 use Rattle.pm_policy.specs.declared.policy.DocAssignment.{DocAssignment}
-use Rattle.pm_policy.proofs.Ordered.{name-itself, same-name}
-use Rattle.pm_order.specs.Ranked.{containers_of, element_in, place}
+use Rattle.pm_policy.proofs.Ordered.{map-contains, same-name}
+use Rattle.pm_order.specs.Ranked.{containers, containers_of, element_in, place, AreWithin}
 
 -- the place is where the name stands among the names
 pub place-position : (es : List DocElement) (name : List ℕ) → position_or_len (bytes_eq name) (map (λ (e : DocElement). e.name) es) ≡ place es name
@@ -138,3 +139,14 @@ pub containers-added : (es : List DocElement) (ps : List DocAssignment) (p : Doc
     lists ≡ map (containers_of es ps) es → from ≡ place es p.from → to ≡ place es p.to → AreOnceCalled es → is_made es p.from ≡ true →
     slice_set lists from (get_or lists from [] ++ to ∷ []) ≡ map (containers_of es (ps ++ p ∷ [])) es
 containers-added es ps p lists from to same at_from at_to once there = rw (same, at_from, at_to) (containers-more es ps p es once there [])
+
+-- each container has a place
+pub containers-within : (es : List DocElement) (pairs : List DocAssignment) → AreKnown pairs es → AreWithin (containers es pairs)
+containers-within es pairs known i k c = let is = of es i c in let same = length-map es (containers_of es pairs) in omega (arith, is, same) where
+  of : (ds : List DocElement) (i : ℕ) → Contains (get_or (map (containers_of es pairs) ds) i []) k → k < length es
+  of [] i c = contains-none k c
+  of (d ∷ ds) zero c =
+      let found = map-contains (λ (p : DocAssignment). place es p.to) (filter (is_assigned d.name) pairs) k c in
+      let pair = (filter-contains (is_assigned d.name) pairs found.0 found.1).0 in
+      subst (λ j. j < length es) found.2 (place-within es found.0.to (known found.0 pair).1)
+  of (d ∷ ds) (suc i) c = of ds i c

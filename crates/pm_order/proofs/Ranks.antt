@@ -12,8 +12,8 @@ use Rattle.pm_policy.specs.Waiting.{AreKnown}
 use Rattle.pm_policy.specs.declared.policy.DocElement.{DocElement}
 use Rattle.pm_policy.specs.declared.policy.DocAssignment.{DocAssignment}
 use Rattle.pm_policy.proofs.Ordered.{made-push, name-itself}
-use Rattle.pm_order.specs.Ranked.{can_make, containers, containers_of, element_in, first_from, place, ranked, then_ranks}
-use Rattle.pm_order.proofs.Placed.{element-there, place-at, place-within, placed}
+use Rattle.pm_order.specs.Ranked.{containers, containers_of, element_in, first_from, place, ranked, then_ranks}
+use Rattle.pm_order.proofs.Placed.{element-there, place-at, placed}
 
 -- those that aren't marked
 abbrev pub left : List Bool → List DocElement → List DocElement

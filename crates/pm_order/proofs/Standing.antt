@@ -1,7 +1,5 @@
 -- A document's elements by name, behind those of the opening.
-use Rattle.std.proofs.Common.{◌≡◌, ◌-◌, true, false, List, [], ◌∷◌, ◌++◌, length, take, drop, Contains, inl, inr, refl, arith}
-use Rattle.std.specs.List.{list_any}
-use Rattle.std.proofs.lemmas.List.Elements.{Contains-append_cases, Contains-append_left, Contains-append_right}
+use Rattle.std.proofs.Common.{◌≡◌, ◌-◌, true, List, [], ◌∷◌, ◌++◌, length, take, drop, refl, arith}
 use Rattle.pm_laws.proofs.Items.{none-at, none-from}
 use Rattle.pm_laws.proofs.Names.{other-swapped}
 use Rattle.pm_policy.specs.Order.{is_made, order, ordered, sorted, stands_before}

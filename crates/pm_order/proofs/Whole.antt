@@ -1,8 +1,7 @@
 -- Elements of different names all have their turns exactly where there are as many turns as elements.
-use Rattle.std.proofs.Common.{zero, suc, ◌≡◌, ◌≤◌, ◌<◌, ◌↔◌, ℕ, true, false, not, List, [], ◌∷◌, ◌++◌, length, filter, find, Option, None, Some, Contains, inl, inr, refl, sym, subst, arith, bytes_eq}
+use Rattle.std.proofs.Common.{zero, suc, ◌≡◌, ◌≤◌, ◌↔◌, ℕ, false, not, List, [], ◌∷◌, ◌++◌, length, find, Option, None, Some, Contains, inl, inr, refl, subst, arith}
 use Rattle.std.proofs.lemmas.Bool.{cases_Bool}
-use Rattle.pm_laws.proofs.Items.{contains-cases, contains-filter, contains-first, contains-none, contains-rest, filter-contains, find-found, none-at}
-use Rattle.pm_laws.proofs.Names.{other-swapped}
+use Rattle.pm_laws.proofs.Items.{contains-filter, contains-first, contains-none, contains-rest, find-found, none-at}
 use Rattle.pm_policy.specs.Order.{is_ready, ordered, then_after, without}
 use Rattle.pm_policy.specs.Policy.{is_called}
 use Rattle.pm_policy.specs.Sound.{AreOnceCalled, IsAcyclic}

@@ -1,5 +1,5 @@
 -- The order of elements by their places in a list. The project's own.
-use Rattle.std.specs.Prelude.{ℕ, zero, suc, ◌+◌, Bool, true, false, not, ◌&&◌, List, [], ◌∷◌, map, filter, slice_index_or, get_or, slice_set, Option, None, Some, if◌then◌else◌}
+use Rattle.std.specs.Prelude.{ℕ, zero, suc, ◌+◌, ◌<◌, ◌≡◌, ◌↔◌, ◌⊎◌, Bool, true, false, not, ◌&&◌, List, [], ◌∷◌, length, map, filter, get_or, slice_set, Contains, Option, None, Some, if◌then◌else◌}
 use Rattle.std.specs.List.{list_all}
 use Rattle.pm_model.specs.declared.elements.Kind.TheVariants.{Pc}
 use Rattle.pm_policy.specs.Policy.{doc_element, is_assigned, is_called}
@@ -25,11 +25,32 @@ containers_of es pairs e = map (λ (p : DocAssignment). place es p.to) (filter (
 abbrev pub containers : List DocElement → List DocAssignment → List (List ℕ)
 containers es pairs = map (containers_of es pairs) es
 
+-- each of these places is one that there is
+abbrev pub AreWithin : List (List ℕ) → Type 0
+AreWithin above = (i k : ℕ) → Contains (get_or above i []) k → k < length above
+
+-- each of these places has the item in its list too, and nothing else has come
+abbrev pub AreAdded : ℕ → List ℕ → List (List ℕ) → List (List ℕ) → Type 0
+AreAdded item places before now =
+    (length now ≡ length before) × ((k i : ℕ) → Contains (get_or now k []) i ↔ (Contains (get_or before k []) i ⊎ ((i ≡ item) × Contains places k)))
+
+-- what has each for a container
+abbrev pub AreChildren : List (List ℕ) → List (List ℕ) → Type 0
+AreChildren below above = (k i : ℕ) → Contains (get_or below k []) i ↔ Contains (get_or above i []) k
+
 -- ---- the order
 
 -- the element at the place isn't made, and its containers are
 abbrev pub can_make : List Bool → ℕ → List ℕ → Bool
 can_make made i above = not (get_or made i false) && list_all (λ k. get_or made k false) above
+
+-- there is the place, and it can be made there
+abbrev pub IsFree : List (List ℕ) → List Bool → ℕ → Type 0
+IsFree above made i = (i < length above) × (can_make made i (get_or above i []) ≡ true)
+
+-- these are all such places
+abbrev pub AreFree : List ℕ → List (List ℕ) → List Bool → Type 0
+AreFree places above made = (i : ℕ) → Contains places i ↔ IsFree above made i
 
 -- the first place from i on at which it can be made; the containers of each stand in its place
 abbrev pub first_from : ℕ → List Bool → List (List ℕ) → Option ℕ

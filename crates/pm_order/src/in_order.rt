@@ -7,8 +7,8 @@ ghost use Rattle.pm_policy.specs.Policy.{doc_element, standing};
 ghost use Rattle.pm_policy.specs.Sound.{AreOnceCalled, IsAcyclic};
 ghost use Rattle.pm_policy.specs.Waiting.{AreKnown};
 
-use crate::by_name::elements_by_name;
 use crate::turns::turns;
+use pm_by_name::elements_by_name;
 use pm_model::{Kind, Memory, Name};
 use pm_policy::{DocAssignment, DocElement};
 use std::alloc::Global;

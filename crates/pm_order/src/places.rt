@@ -1,8 +1,8 @@
 //! Elements by their places in a list, found by name.
 
-ghost use Rattle.std.specs.Prelude.{◌≡◌, ◌<◌, ◌++◌, ◌∷◌, [], true, length, get_or, map, replicate, slice_set, IfOk, OnOk, bytes_eq};
+ghost use Rattle.std.specs.Prelude.{◌≡◌, ◌<◌, ◌++◌, ◌∷◌, ℕ, [], true, length, get_or, map, replicate, slice_set, Contains, IfOk, OnOk, bytes_eq};
 ghost use Rattle.std.specs.List.{list_any, position_or_len};
-ghost use Rattle.pm_order.specs.Ranked.{containers};
+ghost use Rattle.pm_order.specs.Ranked.{containers, AreAdded, AreChildren, AreWithin};
 ghost use Rattle.pm_policy.specs.Sound.{AreOnceCalled};
 ghost use Rattle.pm_policy.specs.Waiting.{AreKnown};
 ghost use Rattle.pm_policy.specs.declared.policy.DocElement.{DocElement};
@@ -96,4 +96,31 @@ pub(crate) fn containers(
         add(containers.as_mut_slice(), from, to)?;
     }
     Ok(containers)
+}
+
+/// Adds an item to the list of each of these places.
+fn add_to_each(lists: &mut [ItemList<usize>], places: &[usize], item: usize) -> Result<(), Memory>
+    requires { (k : ℕ) → Contains places.now k → k < length lists.old }
+    ensures { OnOk result (AreAdded item places.now lists.old lists.new) }
+{
+    for place in places {
+        add(lists, *place, item)?;
+    }
+    Ok(())
+}
+
+/// The elements that each is a container of, by their places.
+pub(crate) fn children(
+    alloc: Global,
+    containers: &[ItemList<usize>],
+) -> Result<Vec<ItemList<usize>>, Memory>
+    requires { AreWithin containers.now }
+    ensures count { IfOk result (λ v. length v.items ≡ length containers.now) }
+    ensures children { IfOk result (λ v. AreChildren v.items containers.now) }
+{
+    let mut children = empty_lists(alloc, containers.len())?;
+    for (place, above) in containers.iter().enumerate() {
+        add_to_each(children.as_mut_slice(), above.as_slice(), place)?;
+    }
+    Ok(children)
 }

@@ -1,16 +1,17 @@
 //! The turns of elements, by their places.
 
-ghost use Rattle.std.specs.Prelude.{◌≡◌, ◌++◌, ◌≤◌, ◌<◌, ◌-◌, length, get_or, take, drop, true, false, map, replicate, vec_len, IfOk, IfSome};
+ghost use Rattle.std.specs.Prelude.{◌≡◌, ◌++◌, ◌≤◌, ◌<◌, ◌-◌, ◌⊎◌, ◌↔◌, ℕ, length, get_or, take, drop, true, false, map, replicate, vec_len, Contains, IfOk, OnOk};
 ghost use Rattle.std.specs.List.{list_all};
-ghost use Rattle.pm_order.specs.Ranked.{can_make, element_in, first_from, ranked};
+ghost use Rattle.pm_order.specs.Ranked.{can_make, element_in, ranked, AreChildren, AreFree, IsFree};
 ghost use Rattle.pm_policy.specs.Order.{ordered};
 ghost use Rattle.pm_policy.specs.Sound.{AreOnceCalled};
 ghost use Rattle.pm_policy.specs.Waiting.{AreKnown};
 
-use crate::places::containers;
+use crate::places::{children, containers};
 use pm_model::{ItemList, Memory};
 use pm_policy::{DocAssignment, DocElement};
 use std::alloc::Global;
+use std::collections::BTreeSet;
 
 fn is_made(made: &[bool], place: usize) -> bool
     ensures { result ≡ get_or made.now place false }
@@ -34,19 +35,54 @@ fn can_make(made: &[bool], place: usize, containers: &ItemList<usize>) -> bool
     !made[place] && all_made(made, containers.as_slice())
 }
 
-/// The first place whose element isn't made, and its containers are.
-#[tactic(auto, using(crate::proofs::Least::first_at, crate::proofs::Least::first_end))]
-fn first_to_make(made: &[bool], containers: &[ItemList<usize>]) -> Option<usize>
-    requires { length containers.now ≤ length made.now }
-    ensures first { result ≡ first_from 0 made.now containers.now }
-    ensures below { IfSome result (λ k. k < length containers.now) }
+/// Adds the place, if an element can be made there.
+fn add_if_free(
+    free: &mut BTreeSet<usize>,
+    made: &[bool],
+    containers: &[ItemList<usize>],
+    place: usize,
+) -> Result<(), Memory>
+    requires made { length containers.now ≤ length made.now }
+    requires place { place < length containers.now }
+    ensures { OnOk result ((i : ℕ) → Contains free.new.keys i ↔ (Contains free.old.keys i ⊎ ((i ≡ place) × IsFree containers.now made.now i))) }
 {
-    for i in 0..containers.len() {
-        if can_make(made, i, &containers[i]) {
-            return Some(i);
-        }
+    if can_make(made, place, &containers[place]) {
+        free.insert(place)?;
     }
-    None
+    Ok(())
+}
+
+/// The places at which an element can be made.
+fn all_free(
+    alloc: Global,
+    made: &[bool],
+    containers: &[ItemList<usize>],
+) -> Result<BTreeSet<usize>, Memory>
+    requires { length containers.now ≤ length made.now }
+    ensures { IfOk result (λ free. AreFree free.keys containers.now made.now) }
+{
+    let mut free = BTreeSet::new(alloc);
+    for place in 0..containers.len() {
+        add_if_free(&mut free, made, containers, place)?;
+    }
+    Ok(free)
+}
+
+/// Adds those of the places at which an element can be made.
+fn add_free(
+    free: &mut BTreeSet<usize>,
+    made: &[bool],
+    containers: &[ItemList<usize>],
+    places: &[usize],
+) -> Result<(), Memory>
+    requires made { length containers.now ≤ length made.now }
+    requires places { (i : ℕ) → Contains places.now i → i < length containers.now }
+    ensures { OnOk result ((i : ℕ) → Contains free.new.keys i ↔ (Contains free.old.keys i ⊎ (Contains places.now i × IsFree containers.now made.now i))) }
+{
+    for place in places {
+        add_if_free(free, made, containers, *place)?;
+    }
+    Ok(())
 }
 
 /// Marks of so many that are made and so many that aren't.
@@ -61,25 +97,36 @@ fn marks(alloc: Global, made: usize, count: usize) -> Result<Vec<bool>, Memory>
     Ok(marks)
 }
 
-/// At most so many elements, always the first that can be made.
+/// At most so many elements, always the first that can be made. Only what has the last one for a container may have become free.
+#[tactic(auto, using(crate::proofs::Free::free_within))]
 fn ranked(
     alloc: Global,
     elements: &[DocElement],
     containers: &[ItemList<usize>],
+    children: &[ItemList<usize>],
     mut made: Vec<bool>,
     most: usize,
 ) -> Result<Vec<DocElement>, Memory>
     requires containers { length containers.now ≡ length elements.now }
+    requires count { length children.now ≡ length elements.now }
+    requires children { AreChildren children.now containers.now }
     requires made { vec_len made ≡ length elements.now }
     ensures { IfOk result (λ v. v.items ≡ map (element_in elements.now) (ranked containers.now most made.items)) }
 {
+    let mut free = all_free(alloc, made.as_slice(), containers)?;
     let mut out = Vec::with_capacity(alloc, most)?;
     for _ in 0..most {
-        match first_to_make(made.as_slice(), containers) {
+        match free.pop_first() {
             None => return Ok(out),
             Some(place) => {
                 made[place] = true;
                 out.push(elements[place])?;
+                add_free(
+                    &mut free,
+                    made.as_slice(),
+                    containers,
+                    children[place].as_slice(),
+                )?;
             }
         }
     }
@@ -100,11 +147,13 @@ pub(crate) fn turns(
     ensures { IfOk result (λ v. v.items ≡ ordered pairs.now (length elements.now - made) (take made elements.now) (drop made elements.now)) }
 {
     let containers = containers(alloc, elements, pairs)?;
+    let children = children(alloc, containers.as_slice())?;
     let marks = marks(alloc, made, elements.len())?;
     ranked(
         alloc,
         elements,
         containers.as_slice(),
+        children.as_slice(),
         marks,
         elements.len() - made,
     )

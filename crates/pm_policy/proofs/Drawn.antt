@@ -27,16 +27,16 @@ use Rattle.pm_policy.proofs.Ordered.{contains-map, map-contains, called-once, sa
 use Rattle.pm_policy.proofs.Sorted.{length-parted}
 
 module _ (G : Graph) (f : IsWellFormed G) where
-  abbrev shown : (ℕ × ℕ) → DocAssignment
+  abbrev pub shown : (ℕ × ℕ) → DocAssignment
   shown r = assignment (name_numbered G.elements r.0) (name_numbered G.elements r.1)
 
-  abbrev names : ℕ → List ℕ
+  abbrev pub names : ℕ → List ℕ
   names n = name_numbered G.elements n
 
-  live-ends : (r : ℕ × ℕ) → Contains G.assigned r → IsLive G.elements r.0 × IsLive G.elements r.1
+  pub live-ends : (r : ℕ × ℕ) → Contains G.assigned r → IsLive G.elements r.0 × IsLive G.elements r.1
   live-ends r c = joins-live G.elements r.0 r.1 (each-at (JoinsKinds G.elements) G.assigned r f.assigned.kinds c)
 
-  name-apart : (x y : ℕ) → IsLive G.elements x → IsLive G.elements y → name_numbered G.elements x ≡ name_numbered G.elements y → x ≡ y
+  pub name-apart : (x y : ℕ) → IsLive G.elements x → IsLive G.elements y → name_numbered G.elements x ≡ name_numbered G.elements y → x ≡ y
   name-apart x y lx ly same =
       let d = live-found G.elements x lx in
       let e = live-found G.elements y ly in
@@ -185,7 +185,7 @@ module _ (G : Graph) (f : IsWellFormed G) where
       subst (λ x. Contains opening_docs (doc_of x)) same (2, omega arith, refl)
   opening-is (suc (suc (suc n))) e at near = absurd (omega (arith, near))
 
-  drawn-called : (n : ℕ) (e : Element) → element_at G.elements n ≡ Some e → called (standing (policy_elements G)) (names n) ≡ Some (doc_of e)
+  pub drawn-called : (n : ℕ) (e : Element) → element_at G.elements n ≡ Some e → called (standing (policy_elements G)) (names n) ≡ Some (doc_of e)
   drawn-called n e at =
       let c = found-at G.elements n e at in
       let there : Contains (standing (policy_elements G)) (doc_of e) = elim (cases_Bool (is_own e)) [
@@ -218,7 +218,7 @@ module _ (G : Graph) (f : IsWellFormed G) where
       let to : p.1 ≡ r.1 = name-apart p.1 r.1 pl.1 rl.1 (same-name (names p.1) (names r.1) b.1) in
       rw (from, to) refl
 
-  pairs-once : (ps : List (ℕ × ℕ)) → ((p : ℕ × ℕ) → Contains ps p → Contains G.assigned p) → StandOnce ps →
+  pub pairs-once : (ps : List (ℕ × ℕ)) → ((p : ℕ × ℕ) → Contains ps p → Contains G.assigned p) → StandOnce ps →
       AreOnceAssigned (map shown (filter (λ (p : ℕ × ℕ). not (is_builtin p.0 p.1)) ps))
   pairs-once [] sub h = tt
   pairs-once (p ∷ ps) sub h = let rest = pairs-once ps (λ r c. sub r (contains-rest p r ps c)) h.1 in
@@ -258,7 +258,7 @@ module _ (G : Graph) (f : IsWellFormed G) where
 
   -- ---- counts
 
-  length-map : {X Y : Type 0} (g : X → Y) (xs : List X) → length (map g xs) ≡ length xs
+  pub length-map : {X Y : Type 0} (g : X → Y) (xs : List X) → length (map g xs) ≡ length xs
   length-map g [] = refl
   length-map g (x ∷ xs) = let rest = length-map g xs in omega (arith, rest)
 

@@ -34,7 +34,7 @@ use Rattle.pm_policy.proofs.Standing.{append-within, ordered-few, called-same}
 use Rattle.pm_policy.proofs.Elements.{all, os, os-has, once-all, all_assigned, elements-made, elements-same, assignments-same, name-of}
 use Rattle.pm_policy.proofs.Rules.{defines, associates, associate_all, associated, associated-cases, associated-new, prohibits, prohibited_by, subject_placed, set_of, names-same, IsFit, IsFitProhibition, kind-called}
 
-length-map : {X Y : Type 0} (f : X → Y) (xs : List X) → length (map f xs) ≡ length xs
+pub length-map : {X Y : Type 0} (f : X → Y) (xs : List X) → length (map f xs) ≡ length xs
 length-map f [] = refl
 length-map f (x ∷ xs) = let rest = length-map f xs in omega (arith, rest)
 
@@ -45,7 +45,7 @@ length-five xs bs cs ds es =
     let c = length-append (xs ++ bs ++ cs) ds in
     let d = length-append (xs ++ bs ++ cs ++ ds) es in omega (arith, a, b, c, d)
 
-ends-swapped : (a b : DocAssociation) → has_ends a b ≡ false → has_ends b a ≡ false
+pub ends-swapped : (a b : DocAssociation) → has_ends a b ≡ false → has_ends b a ≡ false
 ends-swapped a b h = false_from_ne_true (has_ends b a) (λ is.
     let e = and_parts (bytes_eq b.ua a.ua) (bytes_eq b.at a.at) is in
     let ua : bytes_eq a.ua b.ua ≡ true = (bytes_eq-Decides a.ua b.ua).1 (sym (same-name b.ua a.ua e.0)) in
@@ -55,7 +55,7 @@ ends-swapped a b h = false_from_ne_true (has_ends b a) (λ is.
 opening-shaped : opening.graph ≡ shaped opening_rights [] [] opening_docs opening_assigned
 opening-shaped = refl
 
-drop-opening : (rights : List (List ℕ)) → drop 17 (opening_rights ++ rights) ≡ rights
+pub drop-opening : (rights : List (List ℕ)) → drop 17 (opening_rights ++ rights) ≡ rights
 unfolding opening_rights
 drop-opening rights = refl
 

@@ -1,3 +1,4 @@
+pub mod Drawn
 pub mod Order
 pub mod Policy
 pub mod PolicyOf

@@ -6,6 +6,7 @@ pub mod Fields
 pub mod Hex
 pub mod ItemTexts
 pub mod Kept
+pub mod MemberTexts
 pub mod Members
 pub mod Replied
 pub mod Replying

@@ -1,5 +1,6 @@
 pub mod Actions
 pub mod Askable
+pub mod Behind
 pub mod Growth
 pub mod Members
 pub mod Printable

@@ -6,8 +6,9 @@ ghost use Rattle.pm_model.specs.Object.{listed, texted, whole, whole_if};
 ghost use Rattle.pm_model.specs.Text.{said};
 ghost use Rattle.pm_model.specs.Words.{key_text};
 ghost use Rattle.pm_print.specs.Actions.{name_if, name_told};
+ghost use Rattle.pm_print.specs.Behind.{member_told};
 ghost use Rattle.pm_print.specs.Growth.{Adds};
-ghost use Rattle.pm_print.specs.Members.{item_text, items_front, keyed, leading};
+ghost use Rattle.pm_print.specs.Members.{item_text, items_front, keyed, leading, leading_all};
 
 use crate::put::{add_decimal, add_key, add_quoted, put};
 use pm_model::{Key, Memory, Name, Word};
@@ -141,4 +142,36 @@ pub(crate) fn add_list_behind<T: Item>(
 {
     add_key_behind(out, key)?;
     add_list(out, items)
+}
+
+/// A member: its key, and what stands there.
+#[derive(Drop)]
+pub(crate) enum Member<'a> {
+    Number(Key, u64),
+    NumberIf(Key, Option<u64>),
+    Name(Key, &'a Name),
+    Names(Key, &'a [Name]),
+    Word(Key, Word),
+}
+
+fn add_member(out: &mut Vec<u8>, member: &Member<'_>) -> Result<(), Memory>
+    ensures { Adds out.old out.new (leading (member_told member.now).0 (member_told member.now).1) result }
+{
+    match member {
+        Member::Number(key, n) => add_number(out, *key, *n),
+        Member::NumberIf(key, n) => add_number_if(out, *key, *n),
+        Member::Name(key, name) => add_name(out, *key, name),
+        Member::Names(key, names) => add_list_behind(out, *key, names),
+        Member::Word(key, word) => add_word(out, *key, *word),
+    }
+}
+
+/// Appends the members, each with a comma in front, where it is there.
+pub(crate) fn add_members(out: &mut Vec<u8>, members: &[Member<'_>]) -> Result<(), Memory>
+    ensures { Adds out.old out.new (leading_all (map member_told members.now)) result }
+{
+    for member in members {
+        add_member(out, member)?;
+    }
+    Ok(())
 }

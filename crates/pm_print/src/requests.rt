@@ -8,7 +8,7 @@ ghost use Rattle.pm_print.specs.Members.{keyed, leading_all, trailing, trailing_
 ghost use Rattle.pm_print.specs.Requested.{awaited_back, barred_back, body_at, body_back, body_front, body_word, command_at, command_back, command_word, ends_back, keep_back, named_back, question_back, question_word, request_text, review_back, session_back, sets_back};
 
 use crate::actions::{add_cmd, add_when, mode_word, word_to_create};
-use crate::behind::{add_list_behind, add_name, add_number, add_number_if, add_word};
+use crate::behind::{Member, add_list_behind, add_members, add_name, add_number, add_number_if};
 use crate::print::whole_or_none;
 use crate::put::{add_decimal, add_key, add_quoted, put};
 use crate::terms::add_subject;
@@ -128,63 +128,88 @@ fn add_front(out: &mut Vec<u8>, after: Option<u64>, body: &Body) -> Result<(), M
 fn add_session(out: &mut Vec<u8>, id: Option<u64>, session: u32) -> Result<(), Memory>
     ensures { Adds out.old out.new (leading_all (session_back id session)) result }
 {
-    add_number_if(out, Key::Id, id)?;
-    add_number(out, Key::Session, u64::from(session))
+    add_members(
+        out,
+        &[
+            Member::NumberIf(Key::Id, id),
+            Member::Number(Key::Session, u64::from(session)),
+        ],
+    )
 }
 
 fn add_named(out: &mut Vec<u8>, id: Option<u64>, process: u32, name: &Name) -> Result<(), Memory>
     ensures { Adds out.old out.new (leading_all (named_back id process name.now)) result }
 {
-    add_number_if(out, Key::Id, id)?;
-    add_name(out, Key::Name, name)?;
-    add_number(out, Key::Proc, u64::from(process))
+    add_members(
+        out,
+        &[
+            Member::NumberIf(Key::Id, id),
+            Member::Name(Key::Name, name),
+            Member::Number(Key::Proc, u64::from(process)),
+        ],
+    )
 }
 
-fn add_creation(
+fn add_creation<'a>(
     out: &mut Vec<u8>,
     id: Option<u64>,
     process: u32,
     kind: Kind,
-    name: &Name,
-    into: &Name,
+    name: &'a Name,
+    into: &'a Name,
 ) -> Result<(), Memory>
     ensures { Adds out.old out.new (leading_all (command_back id process (Command.Create kind name.now into.now))) result }
 {
-    add_number_if(out, Key::Id, id)?;
-    add_name(out, Key::Into, into)?;
-    add_name(out, Key::Name, name)?;
-    add_number(out, Key::Proc, u64::from(process))
+    add_members(
+        out,
+        &[
+            Member::NumberIf(Key::Id, id),
+            Member::Name(Key::Into, into),
+            Member::Name(Key::Name, name),
+            Member::Number(Key::Proc, u64::from(process)),
+        ],
+    )
 }
 
-fn add_ends(
+fn add_ends<'a>(
     out: &mut Vec<u8>,
     id: Option<u64>,
     process: u32,
-    from: &Name,
-    to: &Name,
+    from: &'a Name,
+    to: &'a Name,
 ) -> Result<(), Memory>
     ensures { Adds out.old out.new (leading_all (ends_back id process from.now to.now)) result }
 {
-    add_name(out, Key::From, from)?;
-    add_number_if(out, Key::Id, id)?;
-    add_number(out, Key::Proc, u64::from(process))?;
-    add_name(out, Key::To, to)
+    add_members(
+        out,
+        &[
+            Member::Name(Key::From, from),
+            Member::NumberIf(Key::Id, id),
+            Member::Number(Key::Proc, u64::from(process)),
+            Member::Name(Key::To, to),
+        ],
+    )
 }
 
-fn add_association(
+fn add_association<'a>(
     out: &mut Vec<u8>,
     id: Option<u64>,
     process: u32,
-    ua: &Name,
-    rights: &[Name],
-    at: &Name,
+    ua: &'a Name,
+    rights: &'a [Name],
+    at: &'a Name,
 ) -> Result<(), Memory>
     ensures { Adds out.old out.new (leading_all (command_back id process (Command.Associate ua.now rights.now at.now))) result }
 {
-    add_number_if(out, Key::Id, id)?;
-    add_number(out, Key::Proc, u64::from(process))?;
-    add_list_behind(out, Key::Rights, rights)?;
-    add_name(out, Key::Ua, ua)
+    add_members(
+        out,
+        &[
+            Member::NumberIf(Key::Id, id),
+            Member::Number(Key::Proc, u64::from(process)),
+            Member::Names(Key::Rights, rights),
+            Member::Name(Key::Ua, ua),
+        ],
+    )
 }
 
 fn add_dissociation(
@@ -196,24 +221,34 @@ fn add_dissociation(
 ) -> Result<(), Memory>
     ensures { Adds out.old out.new (leading_all (command_back id process (Command.Dissociate ua.now at.now))) result }
 {
-    add_number_if(out, Key::Id, id)?;
-    add_number(out, Key::Proc, u64::from(process))?;
-    add_name(out, Key::Ua, ua)
+    add_members(
+        out,
+        &[
+            Member::NumberIf(Key::Id, id),
+            Member::Number(Key::Proc, u64::from(process)),
+            Member::Name(Key::Ua, ua),
+        ],
+    )
 }
 
-fn add_sets(
+fn add_sets<'a>(
     out: &mut Vec<u8>,
     id: Option<u64>,
-    inc: &[Name],
-    exc: &[Name],
+    inc: &'a [Name],
+    exc: &'a [Name],
     mode: Mode,
 ) -> Result<(), Memory>
     ensures { Adds out.old out.new (leading_all (sets_back id inc.now exc.now mode)) result }
 {
-    add_list_behind(out, Key::Exc, exc)?;
-    add_number_if(out, Key::Id, id)?;
-    add_list_behind(out, Key::Inc, inc)?;
-    add_word(out, Key::Mode, mode_word(mode))
+    add_members(
+        out,
+        &[
+            Member::Names(Key::Exc, exc),
+            Member::NumberIf(Key::Id, id),
+            Member::Names(Key::Inc, inc),
+            Member::Word(Key::Mode, mode_word(mode)),
+        ],
+    )
 }
 
 fn add_barred(
@@ -263,10 +298,15 @@ fn add_kept(
 ) -> Result<(), Memory>
     ensures { Adds out.old out.new (leading_all (keep_back id process kind name.now)) result }
 {
-    add_number_if(out, Key::Id, id)?;
-    add_word(out, Key::Kind, kind)?;
-    add_name(out, Key::Of, name)?;
-    add_number(out, Key::Proc, u64::from(process))
+    add_members(
+        out,
+        &[
+            Member::NumberIf(Key::Id, id),
+            Member::Word(Key::Kind, kind),
+            Member::Name(Key::Of, name),
+            Member::Number(Key::Proc, u64::from(process)),
+        ],
+    )
 }
 
 fn add_keep(
@@ -286,9 +326,14 @@ fn add_keep(
 fn add_review(out: &mut Vec<u8>, id: Option<u64>, process: u32, review: u32) -> Result<(), Memory>
     ensures { Adds out.old out.new (leading_all (review_back id process review)) result }
 {
-    add_number_if(out, Key::Id, id)?;
-    add_number(out, Key::Proc, u64::from(process))?;
-    add_number(out, Key::Review, u64::from(review))
+    add_members(
+        out,
+        &[
+            Member::NumberIf(Key::Id, id),
+            Member::Number(Key::Proc, u64::from(process)),
+            Member::Number(Key::Review, u64::from(review)),
+        ],
+    )
 }
 
 fn add_command(
@@ -337,9 +382,14 @@ fn add_command(
 fn add_caps(out: &mut Vec<u8>, id: Option<u64>, process: u32, user: &Name) -> Result<(), Memory>
     ensures { Adds out.old out.new (leading_all (question_back id process (Question.Caps user.now))) result }
 {
-    add_number_if(out, Key::Id, id)?;
-    add_number(out, Key::Proc, u64::from(process))?;
-    add_name(out, Key::User, user)
+    add_members(
+        out,
+        &[
+            Member::NumberIf(Key::Id, id),
+            Member::Number(Key::Proc, u64::from(process)),
+            Member::Name(Key::User, user),
+        ],
+    )
 }
 
 fn add_entries(
@@ -350,9 +400,14 @@ fn add_entries(
 ) -> Result<(), Memory>
     ensures { Adds out.old out.new (leading_all (question_back id process (Question.Entries element.now))) result }
 {
-    add_name(out, Key::Element, element)?;
-    add_number_if(out, Key::Id, id)?;
-    add_number(out, Key::Proc, u64::from(process))
+    add_members(
+        out,
+        &[
+            Member::Name(Key::Element, element),
+            Member::NumberIf(Key::Id, id),
+            Member::Number(Key::Proc, u64::from(process)),
+        ],
+    )
 }
 
 fn add_survey(
@@ -363,9 +418,14 @@ fn add_survey(
 ) -> Result<(), Memory>
     ensures { Adds out.old out.new (leading_all (question_back id process (Question.Survey users.now))) result }
 {
-    add_number_if(out, Key::Id, id)?;
-    add_number(out, Key::Proc, u64::from(process))?;
-    add_list_behind(out, Key::Users, users)
+    add_members(
+        out,
+        &[
+            Member::NumberIf(Key::Id, id),
+            Member::Number(Key::Proc, u64::from(process)),
+            Member::Names(Key::Users, users),
+        ],
+    )
 }
 
 fn add_question(
@@ -389,30 +449,42 @@ fn add_question(
 fn add_user(out: &mut Vec<u8>, id: Option<u64>, user: &Name) -> Result<(), Memory>
     ensures { Adds out.old out.new (leading_all (body_back id (Body.OpenSession user.now))) result }
 {
-    add_number_if(out, Key::Id, id)?;
-    add_name(out, Key::User, user)
+    add_members(
+        out,
+        &[Member::NumberIf(Key::Id, id), Member::Name(Key::User, user)],
+    )
 }
 
 fn add_process(out: &mut Vec<u8>, id: Option<u64>, process: u32) -> Result<(), Memory>
     ensures { Adds out.old out.new (leading_all (body_back id (Body.EndProcess process))) result }
 {
-    add_number_if(out, Key::Id, id)?;
-    add_number(out, Key::Process, u64::from(process))
+    add_members(
+        out,
+        &[
+            Member::NumberIf(Key::Id, id),
+            Member::Number(Key::Process, u64::from(process)),
+        ],
+    )
 }
 
-fn add_access(
+fn add_access<'a>(
     out: &mut Vec<u8>,
     id: Option<u64>,
     process: u32,
-    right: &Name,
-    target: &Name,
+    right: &'a Name,
+    target: &'a Name,
 ) -> Result<(), Memory>
     ensures { Adds out.old out.new (leading_all (body_back id (Body.Access process right.now target.now))) result }
 {
-    add_number_if(out, Key::Id, id)?;
-    add_number(out, Key::Proc, u64::from(process))?;
-    add_name(out, Key::Right, right)?;
-    add_name(out, Key::Target, target)
+    add_members(
+        out,
+        &[
+            Member::NumberIf(Key::Id, id),
+            Member::Number(Key::Proc, u64::from(process)),
+            Member::Name(Key::Right, right),
+            Member::Name(Key::Target, target),
+        ],
+    )
 }
 
 fn add_back(out: &mut Vec<u8>, id: Option<u64>, body: &Body) -> Result<(), Memory>

@@ -191,6 +191,12 @@ module _ {X : Type 0} (number : X → ℕ) (n : ℕ) where
   cut-at_it xs i x cut here is =
       position-at has_number xs i x (λ k y lower there. ne_eqb (number y) n (λ same. omega (arith, same, cut.lower k y lower there))) here (eq-eqb (number x) n is)
 
+  -- one that stands at a place is the first of its number, as no other has it
+  pub placed-once : (xs : List X) (i : ℕ) (x : X) → AreRising number 0 xs → slice_get xs i ≡ Some x → number x ≡ n → Some i ≡ position has_number xs
+  placed-once xs i x h here is =
+      position-at has_number xs i x (λ k y lower there. ne_eqb (number y) n (λ same. omega (arith, same, is, rises number 0 xs k i y x h lower there here))) here
+      (eq-eqb (number x) n is)
+
   -- ---- pages of a list's own
 
   pub own-found : (new : Paged X) (xs : List X) (i : ℕ) → new.items ≡ xs → AreRising number 0 xs → Some i ≡ position has_number xs → IsOwn new i → OwnWhere has_number new

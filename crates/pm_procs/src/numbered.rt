@@ -1,6 +1,6 @@
 //! Items by rising number: where one stands, and how one comes or goes.
 
-ghost use Rattle.std.specs.Prelude.{◌≡◌, ◌==◌, true, OnOk, IsOk, filter, find, not, position};
+ghost use Rattle.std.specs.Prelude.{◌≡◌, ◌==◌, true, Some, IfSome, OnOk, IsOk, filter, find, not, position};
 ghost use Rattle.std.specs.Option.{option_copied};
 ghost use Rattle.pm_pages.specs.Paged.{OwnWhere};
 ghost use Rattle.pm_procs.specs.Rising.{AreRising, IsCut};
@@ -53,8 +53,22 @@ fn count_lower<T: Numbered>(items: &PageList<T>, number: u32) -> usize
     low
 }
 
-/// The place of the item of a number.
-pub(crate) fn place<T: Numbered>(items: &PageList<T>, number: u32) -> Option<usize>
+/// The place of the item of a number, where the numbers from the first to this one have no gaps. It may say None of one that is
+/// there.
+fn place_without_gaps<T: Numbered>(items: &PageList<T>, number: u32) -> Option<usize>
+    requires { AreRising T.number 0 items.now.items }
+    ensures { IfSome result (λ i. position (λ x. T.number x == number) items.now.items ≡ Some i) }
+{
+    let first = items.get(0)?.number();
+    let i = number.checked_sub(first)? as usize;
+    if items.get(i)?.number() != number {
+        return None;
+    }
+    Some(i)
+}
+
+/// The place of the item of a number, by halves.
+fn place_by_halves<T: Numbered>(items: &PageList<T>, number: u32) -> Option<usize>
     requires { AreRising T.number 0 items.now.items }
     ensures { result ≡ position (λ x. T.number x == number) items.now.items }
 {
@@ -66,6 +80,17 @@ pub(crate) fn place<T: Numbered>(items: &PageList<T>, number: u32) -> Option<usi
         return None;
     }
     Some(i)
+}
+
+/// The place of the item of a number.
+pub(crate) fn place<T: Numbered>(items: &PageList<T>, number: u32) -> Option<usize>
+    requires { AreRising T.number 0 items.now.items }
+    ensures { result ≡ position (λ x. T.number x == number) items.now.items }
+{
+    match place_without_gaps(items, number) {
+        Some(i) => Some(i),
+        None => place_by_halves(items, number),
+    }
 }
 
 /// The item of a number.

@@ -24,9 +24,9 @@ const ROOT: ElementId = ElementId(2);
 const ROOM: usize = 64;
 
 /// The live sessions, at most 4,096, and the processes, at most 16,384, by rising number. Numbers are
-/// given in turn, and none twice. A look-up by number halves what is left at each step. Contracts see
-/// also whether the table shares its pages with copies: where it stands alone, nothing is closed or
-/// ended at the cost of memory.
+/// given in turn, and none twice. As long as no lower number is gone, a look-up by number looks at the
+/// first and at the one; else it halves what is left at each step. Contracts see also whether the table
+/// shares its pages with copies: where it stands alone, nothing is closed or ended at the cost of memory.
 pub struct Procs {
     sessions: PageList<Session>,
     processes: PageList<Process>,

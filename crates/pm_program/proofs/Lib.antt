@@ -1,3 +1,4 @@
-pub mod Texts
-pub mod Summing
+pub mod Exported
 pub mod Made
+pub mod Summing
+pub mod Texts

@@ -1,3 +1,4 @@
+pub mod Exporting
 pub mod Generating
 pub mod Making
 pub mod Reading

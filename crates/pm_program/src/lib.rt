@@ -1,6 +1,7 @@
 //! The program over any machine: a run, or what else its words ask for.
 #![tactic(auto)]
 
+mod exporting;
 mod generating;
 mod making;
 mod program;

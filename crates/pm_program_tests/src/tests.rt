@@ -260,7 +260,7 @@ fn a_run_stops_at_its_limit(rt: HostRuntime) -> Result<(), Fail> {
 }
 
 const USAGE: &str =
-    "usage: ngac run | ngac generate N | ngac serve PORT WORKERS | ngac serve-journal PORT WORKERS FILE | ngac request-lines\n";
+    "usage: ngac run | ngac generate N | ngac serve PORT WORKERS | ngac serve-journal PORT WORKERS FILE | ngac request-lines | ngac export\n";
 
 fn calm(alloc: Global, room: usize) -> Result<Streams<CalmSource>, Memory> {
     Ok(Streams {
@@ -303,13 +303,14 @@ static OUTSIDE_THE_GRAMMAR: &[&[&str]] = &[
     &["serve-journal", "1", "2", "kept", "more"],
     &["serve-journal", "kept", "1", "2"],
     &["request-lines", "x"],
+    &["export", "x"],
     &["--help"],
 ];
 
 #[test]
 fn other_words_are_usage(rt: HostRuntime) -> Result<(), Fail> {
     for texts in OUTSIDE_THE_GRAMMAR {
-        let mut streams = calm(rt.alloc(), 128)?;
+        let mut streams = calm(rt.alloc(), 256)?;
         let args = args(rt.alloc(), texts)?;
         assert!(rt; called(&rt, &mut streams, Ok(args)) == Status::Usage);
         assert!(rt; streams.err.taken() == USAGE.as_bytes());
@@ -325,7 +326,7 @@ fn check_serve(
     port: u16,
     workers: u16,
 ) -> Result<(), Fail> {
-    let mut streams = calm(rt.alloc(), 128)?;
+    let mut streams = calm(rt.alloc(), 256)?;
     let args = args(rt.alloc(), texts)?;
     let status = called(rt, &mut streams, Ok(args));
     assert_eq!(rt; status, Status::Serve { port, workers });
@@ -343,7 +344,7 @@ fn a_server_is_asked_for(rt: HostRuntime) -> Result<(), Fail> {
 
 #[test]
 fn a_server_with_a_journal_is_asked_for(rt: HostRuntime) -> Result<(), Fail> {
-    let mut streams = calm(rt.alloc(), 128)?;
+    let mut streams = calm(rt.alloc(), 256)?;
     let args = args(rt.alloc(), &["serve-journal", "8080", "2", "kept"])?;
     let status = called(&rt, &mut streams, Ok(args));
     let asked = Status::ServeJournal {
@@ -371,7 +372,7 @@ static SUMMARIES: &[(&str, &str)] = &[
 #[test]
 fn a_generated_policy_is_summed_up(rt: HostRuntime) -> Result<(), Fail> {
     for (size, text) in SUMMARIES {
-        let mut streams = calm(rt.alloc(), 128)?;
+        let mut streams = calm(rt.alloc(), 256)?;
         let args = args(rt.alloc(), &["generate", size])?;
         assert!(rt; called(&rt, &mut streams, Ok(args)) == Status::Done);
         assert!(rt; streams.out.taken() == text.as_bytes());
@@ -470,13 +471,61 @@ fn lines_that_do_not_fit_are_told(rt: HostRuntime) -> Result<(), Fail> {
     )
 }
 
+// What the lines of the ward make, and what none do.
+static WARD_TEXT: &[u8] =
+    b"{\"assignments\":[[\"staff\",\"ward\"]],\"associations\":[],\"elements\":[[\"ua\",\"staff\"],[\"pc\",\"ward\"]],\"prohibitions\":[],\"rights\":[]}\n";
+
+static EMPTY_TEXT: &[u8] =
+    b"{\"assignments\":[],\"associations\":[],\"elements\":[],\"prohibitions\":[],\"rights\":[]}\n";
+
+#[test]
+fn a_policy_is_exported(rt: HostRuntime) -> Result<(), Fail> {
+    for (input, text) in [
+        (WARD_LINES, WARD_TEXT),
+        (b"".as_slice(), EMPTY_TEXT),
+        (b"{}\n".as_slice(), EMPTY_TEXT),
+        (&FILES[..50], EMPTY_TEXT),
+    ] {
+        check_word(&rt, "export", &CALM, input, Status::Done, text)?;
+    }
+    Ok(())
+}
+
+// The second read would tell the end.
+#[test]
+fn lines_that_cannot_be_read_are_not_exported(rt: HostRuntime) -> Result<(), Fail> {
+    for reads in [&[1], &[2]] {
+        let failing = Outside { reads, ..CALM };
+        check_word(&rt, "export", &failing, WARD_LINES, Status::ReadFault, b"")?;
+    }
+    Ok(())
+}
+
+#[test]
+fn a_document_that_does_not_fit_is_told(rt: HostRuntime) -> Result<(), Fail> {
+    let first = Outside {
+        writes: &[1],
+        ..CALM
+    };
+    check_word(&rt, "export", &first, WARD_LINES, Status::WriteFault, b"")?;
+    let little_room = Outside { room: 5, ..CALM };
+    check_word(
+        &rt,
+        "export",
+        &little_room,
+        WARD_LINES,
+        Status::WriteFault,
+        b"{\"ass",
+    )
+}
+
 // Where the words can't be had the run ends so.
 fn check_no_words(
     rt: &(impl Threads + Abort + Alloc<A = Global> + Sync),
     kind: ErrorKind,
     status: Status,
 ) -> Result<(), Fail> {
-    let mut streams = calm(rt.alloc(), 128)?;
+    let mut streams = calm(rt.alloc(), 256)?;
     let found = called(rt, &mut streams, Err(Error::from(kind)));
     assert_eq!(rt; found, status);
     assert!(rt; streams.out.taken().is_empty());

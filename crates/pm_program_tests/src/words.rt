@@ -104,6 +104,12 @@ request-line
 Request-lines
 request,lines
 run,request-lines
+export,x
+export,
+export,--
+exports
+Export
+run,export
 80,1
 PORT,WORKERS
 help
@@ -152,6 +158,7 @@ fn words_in_the_grammar(rt: HostRuntime) -> Result<(), Fail> {
         asked_by(alloc, "request-lines")?,
         Some(Asked::RequestLines)
     );
+    assert_eq!(rt; asked_by(alloc, "export")?, Some(Asked::Export));
     for (line, size) in [
         ("generate,1", 1),
         ("generate,30", 30),
@@ -208,7 +215,7 @@ fn words_with_a_file(rt: HostRuntime) -> Result<(), Fail> {
 #[test]
 fn words_without_a_file(rt: HostRuntime) -> Result<(), Fail> {
     let alloc = rt.alloc();
-    for line in ["run", "generate,3", "serve,80,1", "request-lines"] {
+    for line in ["run", "generate,3", "serve,80,1", "request-lines", "export"] {
         assert!(rt; file_by(alloc, line)?.is_none(), "{line}");
     }
     for line in OUTSIDE.lines() {

@@ -9,6 +9,7 @@ use Rattle.std.proofs.lemmas.Bool.Decides.{eqb_tells}
 use Rattle.std.proofs.lemmas.List.{get_or_past, get_or-set_same, get_or-set_other, get_or-replicate, length-replicate, get_or-take, length-take-le}
 use Rattle.std.proofs.lemmas.List.Folds.{list_any_more}
 use Rattle.std.proofs.Math.Nat.{mod-lt, div-add-mod}
+use Rattle.std.proofs.Math.Seq.{take-append_seam}
 use Rattle.pm_reach.specs.Words.{in_row}
 
 max_or : (m n : ℕ) → m < 2 → n < 2 → (max m n == 1) ≡ (m == 1 || n == 1)
@@ -135,6 +136,10 @@ zero_less words n h y = same_words (take n words) words (λ k. elim (cases_lt k 
   past (x ∷ xs) zero k l = refl
   past (x ∷ xs) (suc n) zero l = absurd (omega arith)
   past (x ∷ xs) (suc n) (suc k) l = past xs n k (omega arith)
+
+-- words that were written where they stand are all that there is
+pub all_written : (n : ℕ) (new rest : List ℕ) → n ≡ length new → take n (new ++ rest) ≡ new
+all_written n new rest e = rw e (take-append_seam new rest)
 
 -- words behind all that the row has add nothing
 pub words_within : (words : List ℕ) (m n : ℕ) → n ≤ length words → ((k : ℕ) → k < m → k < length words → k < n) →

@@ -4,7 +4,7 @@ use Rattle.std.proofs.lemmas.Bool.{cases_eq, eq-eqb}
 use Rattle.std.specs.declared.alloc.Global.{Global}
 use Rattle.pm_reach.specs.Words.{in_row}
 use Rattle.pm_reach.specs.Rows.{place_at, row_has, has, below}
-use Rattle.pm_reach.specs.Changes.{CanFollow, Makes, Assigns}
+use Rattle.pm_reach.specs.Changes.{CanFollow, Makes, Assigns, Removes}
 use Rattle.pm_reach.specs.Passes.{Rewrites}
 use Rattle.pm_reach.specs.NewRows.{new_words, made_below}
 use Rattle.pm_reach.specs.Table.{Table}
@@ -103,9 +103,27 @@ assigned t new {r} {inside} {other} {y'} {x} {y} {written} e s taken rewrites =
     let was : AssignReady t inside y' other.items = rw e at taken in
     assigns t.rows new x y written (λ q. in_row other.items q) (λ q. was.same q ∙ ap (λ n. below t.rows n q) same_y) (rw same_x at rewrites)
 
+pub assign_ready : (t : Table) {r : Ready} {inside : Inside} {other : Vec ℕ Global} {y' : ℕ} →
+    r ≡ ready.Assign inside y' other → IsTaken t r → AssignReady t inside y' other.items
+assign_ready t e taken = rw e at taken
+
 -- ---- an assignment that is taken away
 
 pub deassign_ready : (t : Table) {r : Ready} {inside : Inside} {marks : Vec Bool Global} {queue row : Vec ℕ Global} {y' x y : ℕ} →
     r ≡ ready.Deassign inside y' marks queue row → step_of r ≡ step.Deassign x y → IsTaken t r →
     (inside.of ≡ x) × DeassignReady t inside marks.items queue.items row.items
 deassign_ready t e s taken = (ap made_x (sym (ap step_of e) ∙ s), rw e at taken)
+
+-- ---- an element that is deleted
+
+pub removed : (old new : List (List (Option (List ℕ)))) (x : ℕ) → place_at new x ≡ None → ((y : ℕ) → y ≢ x → place_at new y ≡ place_at old y) → Removes x old new
+removed old new x gone others = record {
+  live = λ p. elim (cases_eq p x) [
+    | inl e ↦ rw (e, gone, eq-eqb x x refl) refl
+    | inr ne ↦ rw (others p ne, ne-eqb p x ne) refl
+  ];
+  related = λ p q. elim (cases_eq p x) [
+    | inl e ↦ rw (e, gone, eq-eqb x x refl) refl
+    | inr ne ↦ rw (others p ne, ne-eqb p x ne) refl
+  ];
+}

@@ -8,4 +8,5 @@ pub mod Rows
 pub mod Sharing
 pub mod Table
 pub mod Unions
+pub mod View
 pub mod Words

@@ -91,6 +91,34 @@ fn search<P: Parents>(z: u32, parents: &P, marks: &mut [bool], queue: &mut [u32]
     unmark(marks, queue, end);
 }
 
+/// Puts what z is contained in into the row. The memory for a search may be missing where no container of z that is contained
+/// in x has a higher number.
+fn fill<P: Parents>(
+    table: &RowTable,
+    x: u32,
+    z: u32,
+    parents: &P,
+    marks: &mut [bool],
+    queue: &mut [u32],
+    row: &mut [u64],
+)
+    requires live { IsTrue (P.live parents.now z) }
+    requires rows { (w : ℕ) → IsTrue (P.live parents.now w) → has table.now.rows w ≡ true }
+    requires told { TellSoFar (P.assigned parents.now) table.now.rows x z }
+    requires fits { IsLast (P.assigned parents.now) table.now.rows x z ⊎ ((w : ℕ) → IsTrue (P.live parents.now w) → w < length marks.old) }
+    requires as_long { length queue.old ≡ length marks.old }
+    requires none { NoneMarked marks.old }
+    requires wide { (q : ℕ) → contained (P.assigned parents.now) z q ≡ true → q < 64 * length row.old }
+    requires within { AreWithin (length row.old) table.now.rows }
+    ensures row { (q : ℕ) → in_row row.new q ≡ contained (P.assigned parents.now) z q }
+    ensures none { NoneMarked marks.new }
+    ensures long { length row.new ≡ length row.old }
+{
+    if !gather(table, x, z, parents, row) {
+        search(z, parents, marks, queue, row);
+    }
+}
+
 /// Makes the row of z anew. It has no more than before. The memory for a search may be missing where no
 /// container of z that is contained in x has a higher number.
 fn remake<P: Parents>(
@@ -116,9 +144,7 @@ fn remake<P: Parents>(
     ensures none { NoneMarked marks.new }
     ensures long { length row.new ≡ length row.old }
 {
-    if !gather(table, x, z, parents, row) {
-        search(z, parents, marks, queue, row);
-    }
+    fill(table, x, z, parents, marks, queue, row);
     table.overwrite(z, row);
 }
 

@@ -9,6 +9,7 @@ ghost use Rattle.pm_reach.specs.Order.{IsOrder};
 ghost use Rattle.pm_reach.specs.Changes.{TellContainment, CanFollow, Adds, Makes, Assigns, Deassigns, Removes};
 ghost use Rattle.pm_reach.specs.Sharing.{IsUnready, is_owned};
 ghost use Rattle.pm_reach.specs.Table.{value_of};
+ghost use Rattle.pm_reach.specs.Words.{in_row};
 ghost use Rattle.pm_reach.specs.declared.step.Step.{Step};
 
 use crate::held::{Held, read};
@@ -116,6 +117,13 @@ impl ReachRows {
         ensures { result ≡ below self.now.rows x y }
     {
         read(&self.held).contains(x, y)
+    }
+
+    // The words of the row of x; none where it has no row.
+    pub(crate) fn row(&self, x: ElementId) -> &[u64]
+        ensures { (y : ℕ) → in_row result.now y ≡ below self.now.rows x y }
+    {
+        read(&self.held).row(x)
     }
 
     /// Which of the numbers from 64 k on, 64 of them, x is contained in: bit i is the number 64 k + i.

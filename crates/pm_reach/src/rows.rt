@@ -5,6 +5,7 @@ ghost use Rattle.std.specs.Int.{bit_at};
 ghost use Rattle.pm_model.specs.State.{element_at, opening_elements, opening_assigned};
 ghost use Rattle.pm_reach.specs.Rows.{has, below, inside, most};
 ghost use Rattle.pm_reach.specs.Order.{IsOrder};
+ghost use Rattle.pm_reach.specs.Words.{in_row};
 ghost use Rattle.pm_reach.specs.Changes.{TellContainment, CanFollow, Adds, Makes, Assigns, Deassigns, Removes};
 ghost use Rattle.pm_reach.specs.declared.step.Step.{Step};
 
@@ -120,6 +121,13 @@ impl Rows {
         ensures { result ≡ below self.now.rows x y }
     {
         self.table.has(x.number(), y.number())
+    }
+
+    /// The row of x; none where it has no row.
+    pub(crate) fn row(&self, x: ElementId) -> &[u64]
+        ensures { (y : ℕ) → in_row result.now y ≡ below self.now.rows x y }
+    {
+        self.table.words(x.number())
     }
 
     /// Which of the numbers from 64 k on, 64 of them, x is contained in: bit i is the number 64 k + i.

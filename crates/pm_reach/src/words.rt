@@ -199,13 +199,22 @@ pub(crate) fn join(words: &mut Vec<u64>, other: &[u64])
     unite(words.as_mut_slice(), other);
 }
 
+/// Lets the row have what the other row has, for all of which it has words, and nothing else. It leaves its words.
+fn refill(words: &mut [u64], other: &[u64])
+    requires { (y : ℕ) → in_row other.now y ≡ true → y < 64 * length words.old }
+    ensures row { (q : ℕ) → in_row words.new q ≡ in_row other.now q }
+    ensures long { length words.new ≡ length words.old }
+{
+    empty(words);
+    unite_within(words, other);
+}
+
 /// Makes the row have what the other row has, which it has already, and nothing else.
 pub(crate) fn overwrite(words: &mut Vec<u64>, other: &[u64])
     requires { (q : ℕ) → in_row other.now q ≡ true → in_row words.old.items q ≡ true }
     ensures { (q : ℕ) → in_row words.new.items q ≡ in_row other.now q }
 {
-    empty(words.as_mut_slice());
-    unite_within(words.as_mut_slice(), other);
+    refill(words.as_mut_slice(), other);
     trim(words);
 }
 

@@ -11,12 +11,13 @@ use Rattle.pm_model.specs.State.{State, opening}
 use Rattle.pm_model.specs.Lines.{Event, cut, events}
 use Rattle.pm_model.specs.Solo.{solo, replies}
 use Rattle.pm_session.proofs.LineLaws.{events-no_cut}
-use Rattle.pm_run.specs.Coming.{coming, ahead, coming_past}
+use Rattle.pm_run.specs.Coming.{coming, ahead, coming_past, state_past}
 use Rattle.pm_session.specs.Streams.{Streams}
 use Rattle.pm_run.specs.Ended.{Running, Sides, Ended, EndsRun}
 use Rattle.pm_run.specs.Fronts.{IsProperFront}
 use Rattle.pm_run.specs.Parts.{HasStopCause, stop_status}
 use Rattle.pm_run.specs.Ran.{Ran, AreWholeReplies, IsComplete}
+use Rattle.pm_run.specs.Reached.{AtEnd, Reached}
 use Rattle.pm_run.specs.Wrote.{Wrote, WroteWhole, WrotePart}
 use Rattle.pm_run.specs.declared.lines.Stop.{Stop}
 use Rattle.pm_run.specs.declared.lines.Stop.TheVariants as stop
@@ -28,11 +29,13 @@ use Rattle.pm_run.proofs.Running.{Reading, reading-piece, reading-whole, reading
 -- ---- what was written
 
 -- where no whole line waits, all is answered
-solo-answered : (bytes w : List ℕ) (a b : Option (List ℕ)) (S : State) → cut w ≡ None → (h : Wrote a b opening S (coming bytes) (coming w)) → replies opening h.lines ≡ solo bytes
-solo-answered bytes w a b S drained h =
+all-lines : (bytes w : List ℕ) (a b : Option (List ℕ)) (S : State) → cut w ≡ None → (h : Wrote a b opening S (coming bytes) (coming w)) → h.lines ≡ events bytes
+all-lines bytes w a b S drained h =
     let none : coming w [] ≡ [] = ap events (append-nil w) ∙ events-no_cut w drained in
-    ap (replies opening)
-    (sym (ap events (sym (append-nil bytes)) ∙ h.told [] ∙ ap (λ l. h.lines ++ l) none ∙ append-nil h.lines))
+    sym (ap events (sym (append-nil bytes)) ∙ h.told [] ∙ ap (λ l. h.lines ++ l) none ∙ append-nil h.lines)
+
+solo-answered : (bytes w : List ℕ) (a b : Option (List ℕ)) (S : State) → cut w ≡ None → (h : Wrote a b opening S (coming bytes) (coming w)) → replies opening h.lines ≡ solo bytes
+solo-answered bytes w a b S drained h = ap (replies opening) (all-lines bytes w a b S drained h)
 
 -- whole replies are those to the first lines
 whole-replies : (bytes : List ℕ) (a b : Option (List ℕ)) (T : State) (to : List ℕ → List Event) (h : Wrote a b opening T (coming bytes) to)
@@ -99,6 +102,17 @@ ran-done limit left rest last taken grown S w o n h short k end = record {
   at_end = λ _. end;
   within = let q = h.count in omega arith;
   at_limit = λ _. (λ e. cc, λ p. let q = h.count in let l = p.0 in let none : ⊥ = omega arith in absurd none);
+}
+
+-- and then the machine has answered all
+pub reached-done : (limit : ℕ) (left rest last taken grown : Option (List ℕ)) (S T : State) (w o : List ℕ) (n : ℕ)
+    → Running left rest taken grown S w o n → n < limit → AtEnd rest last S T → Reached limit left last T
+reached-done limit left rest last taken grown S T w o n h short end = record {
+  bytes = h.bytes;
+  consumed = subst (Consumes left last) (append-nil h.bytes) (Consumes-append left rest last h.bytes [] h.consumed end.nothing);
+  at_end = end.at_end;
+  short = let q = h.count in omega arith;
+  state = end.same ∙ h.wrote.state ∙ ap (state_past opening) (all-lines h.bytes w taken grown S h.drained h.wrote);
 }
 
 -- so it must be, where the input is shorter than the limit
@@ -219,6 +233,23 @@ ran-serve_journal limit port workers left taken some = record {
 complete-memory : (limit : ℕ) (left : Option (List ℕ)) → IsComplete limit left Memory
 complete-memory limit None = tt
 complete-memory limit (Some input) = λ other. absurd (other refl)
+
+-- before anything was read, for want of memory
+pub ended-nothing : (limit : ℕ) (sides : Sides) → Ended limit sides sides Memory
+ended-nothing limit sides = record {
+  ran = ran-nothing limit sides.left sides.taken;
+  usage = λ e. cc;
+  serve = λ p q e. cc;
+  journal = λ p q e. cc;
+  number = omega arith;
+  complete = λ _ _. complete-memory limit sides.left;
+  read = λ e. cc;
+  read_kept = λ _. refl;
+  write = λ e. cc;
+  write_kept = λ _. refl;
+  end = λ e. cc;
+  end_kept = λ _. refl;
+}
 
 -- a read that failed ends it
 pub ends-read_fault : (behind rest taken : Option (List ℕ)) (f g e k w : ℕ) (S : State) (s : Streams) (most : ℕ)

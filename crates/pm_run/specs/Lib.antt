@@ -3,5 +3,6 @@ pub mod Ended
 pub mod Fronts
 pub mod Parts
 pub mod Ran
+pub mod Reached
 pub mod Statuses
 pub mod Wrote

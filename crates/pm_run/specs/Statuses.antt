@@ -25,7 +25,7 @@ status_number DocumentRefused = 10
 -- what is said on `err`, before the place
 abbrev pub status_text : Status → List ℕ
 status_text Done = []
-status_text Usage = codes "usage: ngac run | ngac generate N | ngac serve PORT WORKERS | ngac serve-journal PORT WORKERS FILE | ngac request-lines\n"
+status_text Usage = codes "usage: ngac run | ngac generate N | ngac serve PORT WORKERS | ngac serve-journal PORT WORKERS FILE | ngac request-lines | ngac export\n"
 status_text ReadFault = codes "ngac: read failed\n"
 status_text WriteFault = codes "ngac: write failed\n"
 status_text Memory = codes "ngac: out of memory\n"

@@ -6,5 +6,5 @@ mod run;
 mod statuses;
 
 pub use lines::write_all;
-pub use run::run_lines;
+pub use run::{run_lines, run_on};
 pub use statuses::Status;

@@ -8,6 +8,7 @@ ghost use Rattle.pm_run.specs.Coming.{coming, coming_past, ahead};
 ghost use Rattle.pm_run.specs.Ended.{Ended, EndsRun, Advanced};
 ghost use Rattle.pm_run.specs.Parts.{HasStopCause};
 ghost use Rattle.pm_run.specs.Ran.{Ran, IsComplete};
+ghost use Rattle.pm_run.specs.Reached.{AtEnd, Reached};
 ghost use Rattle.pm_run.specs.Statuses.{status_number};
 
 use crate::lines::{Stop, answer_lines};
@@ -82,6 +83,8 @@ fn answer_piece<M: Answerer, I: Source, O: Sink, R: Threads + Sync>(
         (record { left = I.left source.old; taken = O.taken out.old; read_faults = I.faults source.old; ends = I.ends source.old; write_faults = O.faults out.old })
         (record { left = I.left source.new; taken = O.taken out.new; read_faults = I.faults source.new; ends = I.ends source.new; write_faults = O.faults out.new })
         (state_of (M.machine machine.old)) session.old (length piece.old)) }
+    ensures done { result ≡ Err Status.Done
+        → AtEnd (I.left source.old) (I.left source.new) (state_of (M.machine machine.old)) (state_of (M.machine machine.new)) }
 {
     let Ok(count) = source.read(piece) else {
         return Err(Status::ReadFault);
@@ -113,10 +116,11 @@ fn answer_all<M: Answerer, I: Source, O: Sink, R: Threads + Sync>(
 ) -> Status
     requires session { session.old ≡ record { waiting = []; output = [] } }
     requires machine { M.machine machine.old ≡ opening_machine }
-    ensures { Ended limit
+    ensures ended { Ended limit
         (record { left = I.left source.old; taken = O.taken out.old; read_faults = I.faults source.old; ends = I.ends source.old; write_faults = O.faults out.old })
         (record { left = I.left source.new; taken = O.taken out.new; read_faults = I.faults source.new; ends = I.ends source.new; write_faults = O.faults out.new })
         result }
+    ensures reached { result ≡ Status.Done → Reached limit (I.left source.old) (I.left source.new) (state_of (M.machine machine.new)) }
 {
     let mut piece = [0u8; PIECE];
     let mut total = 0u64;
@@ -128,6 +132,29 @@ fn answer_all<M: Answerer, I: Source, O: Sink, R: Threads + Sync>(
         }
     }
     Status::TooMuch
+}
+
+/// Answers the lines of the source on a machine at its beginning, up to this many bytes of them. On Done the machine has
+/// answered them all.
+pub fn run_on<M: Answerer, I: Source, O: Sink, R: Threads + Sync>(
+    rt: &R,
+    alloc: Global,
+    limit: u64,
+    machine: &mut M,
+    source: &mut I,
+    out: &mut O,
+) -> Status
+    requires { M.machine machine.old ≡ opening_machine }
+    ensures ended { Ended limit
+        (record { left = I.left source.old; taken = O.taken out.old; read_faults = I.faults source.old; ends = I.ends source.old; write_faults = O.faults out.old })
+        (record { left = I.left source.new; taken = O.taken out.new; read_faults = I.faults source.new; ends = I.ends source.new; write_faults = O.faults out.new })
+        result }
+    ensures reached { result ≡ Status.Done → Reached limit (I.left source.old) (I.left source.new) (state_of (M.machine machine.new)) }
+{
+    let Ok(mut session) = Session::new(alloc) else {
+        return Status::Memory;
+    };
+    answer_all(rt, alloc, limit, &mut session, machine, source, out)
 }
 
 /// Answers the lines of the source, up to this many bytes of it. A `survey` may start threads, which have ended before the
@@ -153,11 +180,8 @@ pub fn run_lines<M: Answerer + Drop, I: Source, O: Sink, R: Threads + Sync>(
     ensures end { result ≡ Status.Done → I.ends source.new ≡ raised (I.ends source.old) }
     ensures end_kept { result ≢ Status.Done → I.ends source.new ≡ I.ends source.old }
 {
-    let Ok(mut session) = Session::new(alloc) else {
-        return Status::Memory;
-    };
     let Ok(mut machine) = M::opening(alloc) else {
         return Status::Memory;
     };
-    answer_all(rt, alloc, limit, &mut session, &mut machine, source, out)
+    run_on(rt, alloc, limit, &mut machine, source, out)
 }

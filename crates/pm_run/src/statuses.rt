@@ -3,7 +3,7 @@
 /// How the program ended.
 #[derive(Clone, Copy, Debug, PartialEq, Eq)]
 pub enum Status {
-    /// All of the input was read, and its lines answered; or the summary of a generated policy was written.
+    /// All of the input was read, and its lines answered; or all that was asked for was written.
     Done,
     /// The words of the command line are outside the grammar.
     Usage,
@@ -65,7 +65,7 @@ impl Status {
         match self {
             Status::Done | Status::Serve { .. } | Status::ServeJournal { .. } => "",
             Status::Usage => {
-                "usage: ngac run | ngac generate N | ngac serve PORT WORKERS | ngac serve-journal PORT WORKERS FILE | ngac request-lines\n"
+                "usage: ngac run | ngac generate N | ngac serve PORT WORKERS | ngac serve-journal PORT WORKERS FILE | ngac request-lines | ngac export\n"
             }
             Status::ReadFault => "ngac: read failed\n",
             Status::WriteFault => "ngac: write failed\n",

@@ -1,3 +1,4 @@
+pub mod Gathered
 pub mod KeyBits
 pub mod Polling
 pub mod Staying

@@ -1,5 +1,8 @@
 -- Sets of keys below 1,024, a bit each.
-use Rattle.std.specs.Prelude.{ℕ, ◌≡◌, ◌≢◌, ◌<◌, ◌/◌, ◌%◌, List, slice_index_or, Option, Some, None, ◌↔◌}
+use Rattle.std.specs.Prelude.{ℕ, ◌≡◌, ◌≢◌, ◌<◌, ◌/◌, ◌%◌, ◌==◌, Bool, true, List, slice_index_or, Option, Some, None, ◌↔◌}
+use Rattle.std.specs.List.{list_any}
+use Rattle.mio.specs.Event.{event_token}
+use Rattle.mio.specs.declared.event.event.Event.{Event}
 use mathlib.Core.Logic.{◌⊎◌}
 use Rattle.std.specs.Int.{bit_at}
 
@@ -19,3 +22,11 @@ pub record HasAdded (s t : KeySet) (key : ℕ) : Type 0 where
 abbrev pub HasTaken : KeySet → KeySet → Option ℕ → Type 0
 HasTaken s t (Some key) = (key < 1024) × HasKey s key × ¬ HasKey t key × ((k : ℕ) → k < key → ¬ HasKey s k) × ((k : ℕ) → k ≢ key → HasKey t k ↔ HasKey s k)
 HasTaken s t None = (t ≡ s) × ((k : ℕ) → ¬ HasKey s k)
+
+-- the event tells this key
+abbrev pub is_told : ℕ → Event → Bool
+is_told key event = (event_token event).0 == key
+
+-- of the keys below 1,024 it has those of the other and those that the events tell, and no more
+abbrev pub HasAddedAll : KeySet → KeySet → List Event → Type 0
+HasAddedAll s t events = (k : ℕ) → k < 1024 → HasKey t k ↔ (HasKey s k ⊎ (list_any (is_told k) events ≡ true))

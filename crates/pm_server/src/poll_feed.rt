@@ -2,8 +2,11 @@
 
 ghost use Rattle.std.specs.Prelude.{◌≡◌, ◌⊎◌, ℕ, None, Some, IfOk, IfSome, IfNone, IsTrue, true, false};
 ghost use Rattle.std.specs.Arc.{arc_value};
+ghost use Rattle.std.specs.List.{list_any};
 ghost use Rattle.std.specs.Time.{instant_nanos};
 ghost use Rattle.slab.specs.Slab.{get};
+ghost use Rattle.mio.specs.Events.{items};
+ghost use Rattle.pm_server.specs.KeySets.{HasAddedAll, is_told};
 ghost use Rattle.pm_worker.specs.Feeding.{number_out};
 ghost use Rattle.pm_worker.specs.declared.feeds.Next.TheVariants as next;
 
@@ -112,7 +115,10 @@ impl<'a, R> Drop for PollFeed<'a, R> {
 }
 
 // Adds the keys that the events tell, and says whether the waker has told one.
-fn gather(events: &Events<Global>, ready: &mut Keys) -> bool {
+fn gather(events: &Events<Global>, ready: &mut Keys) -> bool
+    ensures woken { result ≡ list_any (is_told 1024) (items events.now) }
+    ensures ready { HasAddedAll ready.old ready.new (items events.now) }
+{
     let mut woken = false;
     for event in events.iter() {
         let Token(key) = event.token();

@@ -1,36 +1,16 @@
 //! Changes of associations: the kinds of their ends, before the table's own preconditions.
 
 ghost use Rattle.std.specs.Prelude.{◌≡◌};
-ghost use Rattle.pm_model.specs.State.{element_at};
-ghost use Rattle.pm_model.specs.Effect.{both, may_associate};
-ghost use Rattle.pm_model.specs.Formed.{IsNamed, IsLive};
+ghost use Rattle.pm_model.specs.Formed.{IsNamed};
 ghost use Rattle.pm_state.specs.Changes.{Changes, Checks};
 ghost use Rattle.pm_state.specs.Shown.{graph_of};
 
 use crate::done::Done;
+use crate::kinds::both_may_associate;
 use crate::tables::Tables;
-use pm_model::{Change, ChangeError, ElementId, Kind, Made, Refusal, Rights};
-
-fn may_associate(ua: Kind, at: Kind) -> bool
-    ensures { result ≡ may_associate ua at }
-{
-    match (ua, at) {
-        (Kind::Ua, Kind::Ua | Kind::Oa | Kind::Object) => true,
-        _ => false,
-    }
-}
+use pm_model::{Change, ChangeError, ElementId, Made, Refusal, Rights};
 
 impl Tables {
-    // Whether the kinds of two live elements allow an association.
-    fn both_may_associate(&self, ua: ElementId, at: ElementId) -> bool
-        requires ua_live { IsLive self.now.diagram.elements ua }
-        requires at_live { IsLive self.now.diagram.elements at }
-        ensures { result ≡ both may_associate (element_at self.now.diagram.elements ua) (element_at self.now.diagram.elements at) }
-    {
-        let elements = self.diagram.elements();
-        may_associate(elements.kind(ua), elements.kind(at))
-    }
-
     pub(crate) fn associate(
         &mut self,
         ua: ElementId,
@@ -40,7 +20,7 @@ impl Tables {
         requires { IsNamed (graph_of self.old) (Change.Associate ua rights at) }
         ensures { Changes self.old self.new (Change.Associate ua rights at) result }
     {
-        if !self.both_may_associate(ua, at) {
+        if !both_may_associate(self.diagram.elements(), ua, at) {
             return Err(ChangeError::Refused(Refusal::BadKinds));
         }
         match self.assoc.associate(ua, rights, at) {
@@ -59,7 +39,7 @@ impl Tables {
         requires { IsNamed (graph_of self.now) (Change.Associate ua rights at) }
         ensures { Checks self.now (Change.Associate ua rights at) result }
     {
-        if !self.both_may_associate(ua, at) {
+        if !both_may_associate(self.diagram.elements(), ua, at) {
             return Err(ChangeError::Refused(Refusal::BadKinds));
         }
         match self.assoc.check_associate(ua, at) {

@@ -13,7 +13,10 @@ ghost use Rattle.pm_state.specs.Shown.{graph_of};
 use crate::classes::{place, take_out};
 use crate::done::Done;
 use crate::tables::Tables;
+use pm_assoc::Assoc;
+use pm_deny::Deny;
 use pm_model::{Change, ChangeError, ElementId, Kind, Made, Memory, Name, Refusal};
+use pm_oblig::Obligations;
 
 fn is_builtin(x: ElementId, y: ElementId) -> bool
     ensures { result ≡ is_builtin x y }
@@ -25,6 +28,20 @@ fn is_builtin_element(id: ElementId) -> bool
     ensures { result ≡ is_builtin_element id }
 {
     id.number() < 3
+}
+
+// Whether an association or a prohibition names the element.
+fn is_in_an_access_rule(assoc: &Assoc, deny: &Deny, id: ElementId) -> bool
+    ensures { result ≡ (list_any (has_end id) (associations_of assoc.now.grantees) || list_any (names_element id) deny.now.items) }
+{
+    assoc.names(id) || deny.names(id)
+}
+
+// Whether an association, a prohibition or an obligation names the element.
+fn is_in_a_rule(assoc: &Assoc, deny: &Deny, oblig: &Obligations, id: ElementId) -> bool
+    ensures { result ≡ (list_any (has_end id) (associations_of assoc.now.grantees) || list_any (names_element id) deny.now.items || list_any (concerns id) oblig.now.items) }
+{
+    is_in_an_access_rule(assoc, deny, id) || oblig.names(id)
 }
 
 impl Tables {
@@ -109,24 +126,12 @@ impl Tables {
         }
     }
 
-    // Whether an association or a prohibition names the element.
-    fn is_in_an_access_rule(&self, id: ElementId) -> bool
-        ensures { result ≡ (list_any (has_end id) (associations_of self.now.assoc.grantees) || list_any (names_element id) self.now.deny.items) }
-    {
-        self.assoc.names(id) || self.deny.names(id)
-    }
-
-    // Whether an association, a prohibition or an obligation names the element.
-    fn is_in_a_rule(&self, id: ElementId) -> bool
-        ensures { result ≡ (list_any (has_end id) (associations_of self.now.assoc.grantees) || list_any (names_element id) self.now.deny.items || list_any (concerns id) self.now.oblig.items) }
-    {
-        self.is_in_an_access_rule(id) || self.oblig.names(id)
-    }
-
     fn is_in_use(&self, id: ElementId) -> bool
         ensures { result ≡ is_in_use (graph_of self.now) id }
     {
-        self.is_in_a_rule(id) || self.procs.has_session(id) || self.kept.reviews(id)
+        is_in_a_rule(&self.assoc, &self.deny, &self.oblig, id)
+            || self.procs.has_session(id)
+            || self.kept.reviews(id)
     }
 
     /// It looks at each association, prohibition, obligation, session and kept review, and may want memory for its row.

@@ -103,8 +103,8 @@ impl Graph {
 
     /// What is contained in what, as the rows have it: whoever asks takes no memory.
     pub fn reach(&self) -> Containment<'_>
-        ensures elements { result.diagram.now.elements ≡ self.now.elements }
-        ensures assigned { result.diagram.now.assigned ≡ self.now.assigned }
+        ensures elements { result.elements ≡ self.now.elements }
+        ensures assigned { result.assigned ≡ self.now.assigned }
     {
         self.tables.diagram.reach()
     }

@@ -9,6 +9,7 @@ mod draft;
 mod elements;
 mod graph;
 mod judging;
+mod kinds;
 mod obligations;
 mod prohibitions;
 mod repairs;

@@ -1,45 +1,18 @@
 //! Changes of obligations.
 
 ghost use Rattle.std.specs.Prelude.{◌≡◌, ◌<◌, length};
-ghost use Rattle.pm_model.specs.State.{element_at};
-ghost use Rattle.pm_model.specs.Effect.{has_kind, is_actor_kind, may_watch};
 ghost use Rattle.pm_state.specs.Changes.{Changes, Checks};
 
 use crate::done::Done;
+use crate::kinds::may_watch;
 use crate::tables::Tables;
-use pm_model::{Change, ChangeError, ElementId, Kind, Made, Memory, Obligation, Refusal};
-
-fn is_actor_kind(kind: Kind) -> bool
-    ensures { result ≡ is_actor_kind kind }
-{
-    match kind {
-        Kind::User | Kind::Ua => true,
-        Kind::Oa | Kind::Object | Kind::Pc => false,
-    }
-}
+use pm_model::{Change, ChangeError, Made, Memory, Obligation, Refusal};
 
 impl Tables {
-    // Whether the element is a user or a user attribute.
-    fn is_actor(&self, id: ElementId) -> bool
-        ensures { result ≡ has_kind is_actor_kind (element_at self.now.diagram.elements id) }
-    {
-        let elements = self.diagram.elements();
-        elements.live(id) && is_actor_kind(elements.kind(id))
-    }
-
-    fn may_watch(&self, user: Option<ElementId>) -> bool
-        ensures { result ≡ may_watch self.now.diagram.elements user }
-    {
-        match user {
-            None => true,
-            Some(id) => self.is_actor(id),
-        }
-    }
-
     pub(crate) fn oblige(&mut self, item: &Obligation) -> Result<Done, ChangeError>
         ensures { Changes self.old self.new (Change.Oblige item.now) result }
     {
-        if !self.may_watch(item.pattern.user) {
+        if !may_watch(self.diagram.elements(), item.pattern.user) {
             return Err(ChangeError::Refused(Refusal::BadKinds));
         }
         let item = match item.copy() {
@@ -55,7 +28,7 @@ impl Tables {
     pub(crate) fn check_oblige(&self, item: &Obligation) -> Result<(), ChangeError>
         ensures { Checks self.now (Change.Oblige item.now) result }
     {
-        if !self.may_watch(item.pattern.user) {
+        if !may_watch(self.diagram.elements(), item.pattern.user) {
             return Err(ChangeError::Refused(Refusal::BadKinds));
         }
         match self.oblig.check_oblige(item) {

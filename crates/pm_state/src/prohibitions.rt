@@ -1,71 +1,18 @@
 //! Changes of prohibitions, and of the names of rights.
 
 ghost use Rattle.std.specs.Prelude.{◌≡◌, ◌<◌, length};
-ghost use Rattle.std.specs.List.{list_all};
-ghost use Rattle.pm_model.specs.State.{element_at};
-ghost use Rattle.pm_model.specs.Effect.{has_kind, has_subject_kind, is_place, is_place_kind, is_ua_kind, may_prohibit};
 ghost use Rattle.pm_state.specs.Changes.{Changes, Checks};
 
 use crate::done::Done;
+use crate::kinds::may_prohibit;
 use crate::tables::Tables;
-use pm_model::{
-    Change, ChangeError, ElementId, Kind, Made, Memory, Name, PlaceList, Prohibition, Refusal,
-    Subject,
-};
-
-fn is_place_kind(kind: Kind) -> bool
-    ensures { result ≡ is_place_kind kind }
-{
-    match kind {
-        Kind::Ua | Kind::Oa | Kind::Object => true,
-        Kind::User | Kind::Pc => false,
-    }
-}
+use pm_model::{Change, ChangeError, Made, Memory, Name, Prohibition, Refusal};
 
 impl Tables {
-    // Whether the element is of a kind that may stand in a set of a prohibition.
-    fn is_place(&self, id: ElementId) -> bool
-        ensures { result ≡ is_place self.now.diagram.elements id }
-    {
-        let elements = self.diagram.elements();
-        elements.live(id) && is_place_kind(elements.kind(id))
-    }
-
-    fn are_places(&self, places: &PlaceList) -> bool
-        ensures { result ≡ list_all (is_place self.now.diagram.elements) places.now }
-    {
-        places.as_slice().iter().all(|id| self.is_place(*id))
-    }
-
-    fn is_user_attribute(&self, id: ElementId) -> bool
-        ensures { result ≡ has_kind is_ua_kind (element_at self.now.diagram.elements id) }
-    {
-        let elements = self.diagram.elements();
-        elements.live(id) && matches!(elements.kind(id), Kind::Ua)
-    }
-
-    fn has_subject_kind(&self, subject: Subject<ElementId, u32>) -> bool
-        ensures { result ≡ has_subject_kind self.now.diagram.elements subject }
-    {
-        match subject {
-            Subject::User(id) => self.is_user(id),
-            Subject::Ua(id) => self.is_user_attribute(id),
-            Subject::Process(_) => true,
-        }
-    }
-
-    fn may_prohibit(&self, item: &Prohibition) -> bool
-        ensures { result ≡ may_prohibit self.now.diagram.elements item.now }
-    {
-        self.has_subject_kind(item.subject)
-            && self.are_places(&item.inc)
-            && self.are_places(&item.exc)
-    }
-
     pub(crate) fn prohibit(&mut self, item: &Prohibition) -> Result<Done, ChangeError>
         ensures { Changes self.old self.new (Change.Prohibit item.now) result }
     {
-        if !self.may_prohibit(item) {
+        if !may_prohibit(self.diagram.elements(), item) {
             return Err(ChangeError::Refused(Refusal::BadKinds));
         }
         let item = match item.copy() {
@@ -81,7 +28,7 @@ impl Tables {
     pub(crate) fn check_prohibit(&self, item: &Prohibition) -> Result<(), ChangeError>
         ensures { Checks self.now (Change.Prohibit item.now) result }
     {
-        if !self.may_prohibit(item) {
+        if !may_prohibit(self.diagram.elements(), item) {
             return Err(ChangeError::Refused(Refusal::BadKinds));
         }
         match self.deny.check_prohibit(item) {

@@ -9,7 +9,7 @@ ghost use Rattle.pm_state.specs.Listing.{AreListed, keeps};
 ghost use Rattle.pm_affect.specs.Counting.{judged_for};
 ghost use Rattle.pm_state.specs.Repairs.{IsAsked, IsCharged, IsDue, is_less};
 
-use crate::asking::{list_live, list_of};
+use crate::asking::{list_of, live_elements, live_users};
 use crate::graph::Graph;
 use crate::judging::UserJudge;
 use pm_affect::{
@@ -135,17 +135,11 @@ fn judge_again(lists: KeptLists, graph: &Graph, region: &Region) -> Result<KeptL
     if !are_touched(&lists, graph, region) {
         return Ok(lists);
     }
-    let live = list_live(graph)?;
+    let elements = live_elements(graph)?;
+    let users = live_users(graph)?;
     let mut reach = graph.reach();
     let mut judge = UserJudge::new(graph)?;
-    update(
-        lists,
-        region,
-        &live.elements,
-        &live.users,
-        &mut reach,
-        &mut judge,
-    )
+    update(lists, region, &elements, &users, &mut reach, &mut judge)
 }
 
 /// Does so, where a review is kept and the region isn't empty.

@@ -1,27 +1,18 @@
 //! Changes of kept reviews.
 
 ghost use Rattle.std.specs.Prelude.{◌≡◌, IsOk};
-ghost use Rattle.pm_model.specs.Effect.{may_keep};
 ghost use Rattle.pm_state.specs.Changes.{Changes, Checks};
 
 use crate::done::Done;
+use crate::kinds::may_keep;
 use crate::tables::Tables;
 use pm_model::{Change, ChangeError, ElementId, Made, Refusal, ReviewOf};
 
 impl Tables {
-    fn may_keep(&self, of: &ReviewOf<ElementId>) -> bool
-        ensures { result ≡ may_keep self.now.diagram.elements of.now }
-    {
-        match of {
-            ReviewOf::Caps(user) => self.is_user(*user),
-            ReviewOf::Entries(_) => true,
-        }
-    }
-
     pub(crate) fn keep(&mut self, of: ReviewOf<ElementId>) -> Result<Done, ChangeError>
         ensures { Changes self.old self.new (Change.Keep of) result }
     {
-        if !self.may_keep(&of) {
+        if !may_keep(self.diagram.elements(), &of) {
             return Err(ChangeError::Refused(Refusal::BadKinds));
         }
         match self.kept.keep(of) {
@@ -33,7 +24,7 @@ impl Tables {
     pub(crate) fn check_keep(&self, of: &ReviewOf<ElementId>) -> Result<(), ChangeError>
         ensures { Checks self.now (Change.Keep of.now) result }
     {
-        if !self.may_keep(of) {
+        if !may_keep(self.diagram.elements(), of) {
             return Err(ChangeError::Refused(Refusal::BadKinds));
         }
         match self.kept.check(of) {

@@ -1,31 +1,22 @@
 //! Changes of sessions and processes. A process that ends takes the prohibitions on it along.
 
 ghost use Rattle.std.specs.Prelude.{◌≡◌};
-ghost use Rattle.pm_model.specs.State.{element_at};
-ghost use Rattle.pm_model.specs.Effect.{has_kind, is_user_kind};
 ghost use Rattle.pm_model.specs.Formed.{IsNamed};
 ghost use Rattle.pm_state.specs.Changes.{Changes, Checks};
 ghost use Rattle.pm_state.specs.Shown.{graph_of};
 
 use crate::done::Done;
+use crate::kinds::is_user;
 use crate::tables::Tables;
-use pm_model::{Change, ChangeError, ElementId, Kind, Made, Memory, Refusal};
+use pm_model::{Change, ChangeError, ElementId, Made, Memory, Refusal};
 use pm_procs::change_error;
 
 impl Tables {
-    /// Whether the element is a user.
-    pub(crate) fn is_user(&self, id: ElementId) -> bool
-        ensures { result ≡ has_kind is_user_kind (element_at self.now.diagram.elements id) }
-    {
-        let elements = self.diagram.elements();
-        elements.live(id) && matches!(elements.kind(id), Kind::User)
-    }
-
     pub(crate) fn open_session(&mut self, user: ElementId) -> Result<Done, ChangeError>
         requires { IsNamed (graph_of self.old) (Change.OpenSession user) }
         ensures { Changes self.old self.new (Change.OpenSession user) result }
     {
-        if !self.is_user(user) {
+        if !is_user(self.diagram.elements(), user) {
             return Err(ChangeError::Refused(Refusal::BadKinds));
         }
         match self.procs.open_session(user) {
@@ -38,7 +29,7 @@ impl Tables {
         requires { IsNamed (graph_of self.now) (Change.OpenSession user) }
         ensures { Checks self.now (Change.OpenSession user) result }
     {
-        if !self.is_user(user) {
+        if !is_user(self.diagram.elements(), user) {
             return Err(ChangeError::Refused(Refusal::BadKinds));
         }
         match self.procs.check_open() {

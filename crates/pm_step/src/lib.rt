@@ -2,6 +2,7 @@
 #![tactic(auto)]
 
 mod counting;
+mod drawing;
 mod edition;
 mod entries;
 mod looking;

@@ -12,12 +12,12 @@ use Rattle.pm_words.specs.Lists.{Wanted, Entry}
 use Rattle.pm_words.specs.Told.{asks_journal}
 use Rattle.pm_words.specs.Words.{AreWithin, HasFile, IsServeJournal, Says, IsAsked}
 use Rattle.pm_words.specs.declared.words.Asked.{Asked}
-use Rattle.pm_words.specs.declared.words.Asked.TheVariants.{Run, Generate, Serve, ServeJournal, RequestLines}
+use Rattle.pm_words.specs.declared.words.Asked.TheVariants.{Run, Generate, Serve, ServeJournal, RequestLines, Export}
 use Rattle.pm_words.proofs.Asking.{as_many, is_number, listed_by}
 
 -- what is asked for by a word and its numbers
 abbrev asked_by : List ℕ → List ℕ → Option Asked
-asked_by name [] = cond (bytes_eq (codes "run") name) (Some Run) (cond (bytes_eq (codes "request-lines") name) (Some RequestLines) None)
+asked_by name [] = cond (bytes_eq (codes "run") name) (Some Run) (cond (bytes_eq (codes "request-lines") name) (Some RequestLines) (cond (bytes_eq (codes "export") name) (Some Export) None))
 asked_by name (n ∷ []) = cond (bytes_eq (codes "generate") name) (Some (Generate n)) None
 asked_by name (p ∷ w ∷ []) = cond (bytes_eq (codes "serve") name) (Some (Serve p w)) (cond (bytes_eq (codes "serve-journal") name) (Some (ServeJournal p w)) None)
 asked_by name (n ∷ m ∷ k ∷ ns) = None
@@ -36,6 +36,7 @@ asks words (Generate n) says = record { name = codes "generate"; numbers = n ∷
 asks words (Serve p w) says = record { name = codes "serve"; numbers = p ∷ w ∷ []; texts = []; says = says; is = refl }
 asks words (ServeJournal p w) says = record { name = codes "serve-journal"; numbers = p ∷ w ∷ []; texts = says.0 ∷ []; says = says.1; is = refl }
 asks words RequestLines says = record { name = codes "request-lines"; numbers = []; texts = []; says = says; is = refl }
+asks words Export says = record { name = codes "export"; numbers = []; texts = []; says = says; is = refl }
 
 abbrev AreSmall : List ℕ → Type 0
 AreSmall [] = ⊤
@@ -137,6 +138,7 @@ file_of_last f words (Some Run) items left last n are len split some is journal 
 file_of_last f words (Some (Generate k)) items left last n are len split some is journal = absurd (true≢false (sym journal))
 file_of_last f words (Some (Serve p w)) items left last n are len split some is journal = absurd (true≢false (sym journal))
 file_of_last f words (Some RequestLines) items left last n are len split some is journal = absurd (true≢false (sym journal))
+file_of_last f words (Some Export) items left last n are len split some is journal = absurd (true≢false (sym journal))
 file_of_last f words (Some (ServeJournal p w)) items left None n are len split some is journal =
     let four : length words ≡ 4 = ap length is.1.told in
     let as_many = length-map items f in

@@ -18,7 +18,7 @@ use Rattle.clap.proofs.WalkLemmas.{both, first_value-rows}
 use Rattle.pm_words.specs.Lists.{Wanted, Entry, labels_of}
 use Rattle.pm_words.specs.declared.grammar.TheConstants.{FILE, PORT, SIZE, WORKERS}
 use Rattle.pm_words.specs.Told.{IsText, IsValue, Tells, value_rows}
-use Rattle.pm_words.specs.Words.{AreTexts, AreWithin, Says, IsRun, IsGenerate, IsServe, IsServeJournal, IsRequestLines, IsOther, entry_named, is_flag}
+use Rattle.pm_words.specs.Words.{AreTexts, AreWithin, Says, IsRun, IsGenerate, IsServe, IsServeJournal, IsRequestLines, IsExport, IsOther, entry_named, is_flag}
 use Rattle.pm_words.proofs.Asking.{well_made}
 use Rattle.pm_words.proofs.Behind.{IsFlagless, are_apart, rest_flagless}
 use Rattle.pm_words.proofs.Placed.{has_label, same_bytes}
@@ -270,6 +270,9 @@ serve_journal_written_out words p w f = (
 pub request_lines_written_out : (words : List Text) → IsRequestLines words ↔ (words ≡ codes "request-lines" ∷ [])
 request_lines_written_out words = ((λ is. is.told), (λ told. record { told = told; listed = (tt, tt) }))
 
+pub export_written_out : (words : List Text) → IsExport words ↔ (words ≡ codes "export" ∷ [])
+export_written_out words = ((λ is. is.told), (λ told. record { told = told; listed = (tt, tt) }))
+
 differs : (a b : Text) → (b ≡ a → ⊥) → bytes_eq a b ≡ false
 differs a b other = by_test (bytes_eq a b) refl
   where
@@ -279,14 +282,15 @@ differs a b other = by_test (bytes_eq a b) refl
 
 -- a word that there is has one of the names
 pub other_told : (words : List Text) (name : Text) (rows : List Row) → Tells words name rows → (name ≡ codes "run" → ⊥) → (name ≡ codes "generate" → ⊥)
-    → (name ≡ codes "serve" → ⊥) → (name ≡ codes "serve-journal" → ⊥) → (name ≡ codes "request-lines" → ⊥) → ⊥
-other_told words name rows t run generate serve serve_journal request_lines =
+    → (name ≡ codes "serve" → ⊥) → (name ≡ codes "serve-journal" → ⊥) → (name ≡ codes "request-lines" → ⊥) → (name ≡ codes "export" → ⊥) → ⊥
+other_told words name rows t run generate serve serve_journal request_lines export =
     let r = differs (codes "run") name run in
     let g = differs (codes "generate") name generate in
     let s = differs (codes "serve") name serve in
     let j = differs (codes "serve-journal") name serve_journal in
     let l = differs (codes "request-lines") name request_lines in
-    let none : entry_named name ≡ None = rw (r, g, s, j, l) refl in
+    let x = differs (codes "export") name export in
+    let none : entry_named name ≡ None = rw (r, g, s, j, l, x) refl in
     let some = t.named in
     absurd (cc (none, some))
 

@@ -10,7 +10,7 @@ use Rattle.std.specs.declared.io.ErrorKind.TheVariants.{OutOfMemory}
 use Rattle.std.specs.declared.vec.IntoIter.{IntoIter}
 use Rattle.pm_words.specs.Lists.{Wanted, Entry, entries, labels_of}
 use Rattle.pm_words.specs.declared.words.Asked.{Asked}
-use Rattle.pm_words.specs.declared.words.Asked.TheVariants.{Run, Generate, Serve, ServeJournal, RequestLines}
+use Rattle.pm_words.specs.declared.words.Asked.TheVariants.{Run, Generate, Serve, ServeJournal, RequestLines, Export}
 
 -- as many numbers as are wanted, each from its least to its most
 abbrev pub AreWithin : List Wanted → List ℕ → Type 0
@@ -54,6 +54,9 @@ IsServeJournal words port workers file = Says words (codes "serve-journal") (por
 abbrev pub IsRequestLines : List (List ℕ) → Type 0
 IsRequestLines words = Says words (codes "request-lines") [] []
 
+abbrev pub IsExport : List (List ℕ) → Type 0
+IsExport words = Says words (codes "export") [] []
+
 -- a server with a journal, whatever its file
 abbrev pub HasJournal : List (List ℕ) → ℕ → ℕ → Type 0
 HasJournal words port workers = (file : List ℕ) × IsServeJournal words port workers file
@@ -73,6 +76,7 @@ IsAsked words (Some (Generate size)) = IsGenerate words size
 IsAsked words (Some (Serve port workers)) = IsServe words port workers
 IsAsked words (Some (ServeJournal port workers)) = HasJournal words port workers
 IsAsked words (Some RequestLines) = IsRequestLines words
+IsAsked words (Some Export) = IsExport words
 IsAsked words None = IsOther words
 
 -- the words behind the program's name
@@ -93,6 +97,9 @@ AskServeJournal args port workers = IsOkAnd args (λ words. HasJournal (words_of
 
 abbrev pub AskRequestLines : Result (IntoIter (String Global) Global) Error → Type 0
 AskRequestLines args = IsOkAnd args (λ words. IsRequestLines (words_of words))
+
+abbrev pub AskExport : Result (IntoIter (String Global) Global) Error → Type 0
+AskExport args = IsOkAnd args (λ words. IsExport (words_of words))
 
 abbrev pub AskFile : Result (IntoIter (String Global) Global) Error → List ℕ → Type 0
 AskFile args file = IsOkAnd args (λ words. HasFile (words_of words) file)

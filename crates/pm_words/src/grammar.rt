@@ -17,10 +17,11 @@ pub(crate) const WORKERS: Wanted = ("WORKERS", 1, 32);
 pub(crate) const FILE: &str = "FILE";
 
 /// The words that there are: of this list the grammar, the usage line and the command that reads the words are made.
-pub const WORDS: [Entry; 5] = [
+pub const WORDS: [Entry; 6] = [
     ("run", &[], &[]),
     ("generate", &[SIZE], &[]),
     ("serve", &[PORT, WORKERS], &[]),
     ("serve-journal", &[PORT, WORKERS], &[FILE]),
     ("request-lines", &[], &[]),
+    ("export", &[], &[]),
 ];

@@ -6,7 +6,7 @@ ghost use Rattle.std.specs.Vec.Iter.{into_iter_items};
 ghost use Rattle.clap.specs.Words.{found_of, kind_of, rows_of, subcommand_rows_of};
 ghost use Rattle.pm_words.specs.Lists.{wanted_of};
 ghost use Rattle.pm_words.specs.Told.{asks_journal, IsText, IsValue, Tells, TellsMet};
-ghost use Rattle.pm_words.specs.Words.{is_flag, words_of, AskFile, AskRun, AskGenerate, AskServe, AskServeJournal, AskRequestLines, AskOther, HasFile, IsAsked};
+ghost use Rattle.pm_words.specs.Words.{is_flag, words_of, AskFile, AskRun, AskGenerate, AskServe, AskServeJournal, AskRequestLines, AskExport, AskOther, HasFile, IsAsked};
 
 use crate::command::make_command;
 use crate::grammar::{FILE, PORT, SIZE, WORKERS, Wanted};
@@ -32,6 +32,8 @@ pub enum Asked {
     ServeJournal { port: u16, workers: u16 },
     /// The request lines that make the policy document of the input.
     RequestLines,
+    /// The policy document of the machine that the lines of the input make.
+    Export,
 }
 
 // The number that the word is, in decimal digits with no zero in front.
@@ -108,6 +110,7 @@ fn told_by(name: &str, values: &ArgMatches<'_>) -> Option<Asked>
         "serve" => server(values),
         "serve-journal" => journal_server(values),
         "request-lines" => Some(Asked::RequestLines),
+        "export" => Some(Asked::Export),
         _ => None,
     }
 }
@@ -172,6 +175,7 @@ pub fn read_words(alloc: Global, args: io::Result<Args>) -> Result<Option<Asked>
     ensures serve { (p w : ℕ) → IfOk result (λ asked. (asked ≡ Some (Asked.Serve p w)) ↔ AskServe args p w) }
     ensures serve_journal { (p w : ℕ) → IfOk result (λ asked. (asked ≡ Some (Asked.ServeJournal p w)) ↔ AskServeJournal args p w) }
     ensures request_lines { IfOk result (λ asked. (asked ≡ Some Asked.RequestLines) ↔ AskRequestLines args) }
+    ensures export { IfOk result (λ asked. (asked ≡ Some Asked.Export) ↔ AskExport args) }
     ensures other { IfOk result (λ asked. (asked ≡ None) ↔ AskOther args) }
     ensures memory { IfErr args (λ error. IsErr result ↔ (error_kind error ≡ ErrorKind.OutOfMemory)) }
 {

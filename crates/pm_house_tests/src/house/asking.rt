@@ -1,10 +1,9 @@
 //! What seats ask in tests, and what they are told.
 
 use pm_house::{Home, House, Looked, Seat};
+use pm_io::NoKeep;
 use pm_machine::Version;
-use pm_model::{
-    Body, Command, ElementId, Keep, Kind, Name, NameList, Reason, Refusal, Reply, Request,
-};
+use pm_model::{Body, Command, ElementId, Kind, Name, NameList, Reason, Refusal, Reply, Request};
 use pm_step::Edition;
 use std::alloc::Global;
 use std::process::Abort;
@@ -17,7 +16,6 @@ pub(crate) enum Told {
     Done,
     /// The class of this number isn't met.
     Lacks(u32),
-    Fault,
     Another,
 }
 
@@ -30,7 +28,6 @@ fn what(reply: &Reply) -> Told {
                 ..
             },
         ) => Told::Lacks(*class),
-        Reply::KeepFault => Told::Fault,
         _ => Told::Another,
     }
 }
@@ -122,19 +119,10 @@ pub(crate) fn policy(n: u32) -> Ask {
     }
 }
 
-/// A name for each of the first numbers.
-pub(crate) fn letter(n: u64) -> &'static str {
-    match n {
-        0 => "a",
-        1 => "b",
-        _ => "c",
-    }
-}
-
 /// What the desk tells, and the version that it names.
-pub(crate) fn submit<K: Keep + Drop, H: Home, R: Threads + Wait + Abort + Alloc<A = Global> + Sync>(
+pub(crate) fn submit<H: Home, R: Threads + Wait + Abort + Alloc<A = Global> + Sync>(
     rt: &R,
-    house: &House<Edition, K, H>,
+    house: &House<Edition, NoKeep, H>,
     seat: &mut Seat<Edition, H>,
     request: &Request,
 ) -> (Told, u64) {
@@ -145,13 +133,9 @@ pub(crate) fn submit<K: Keep + Drop, H: Home, R: Threads + Wait + Abort + Alloc<
 }
 
 /// The desk tells this, at this version.
-pub(crate) fn is_told<
-    K: Keep + Drop,
-    H: Home,
-    R: Threads + Wait + Abort + Alloc<A = Global> + Sync,
->(
+pub(crate) fn is_told<H: Home, R: Threads + Wait + Abort + Alloc<A = Global> + Sync>(
     rt: &R,
-    house: &House<Edition, K, H>,
+    house: &House<Edition, NoKeep, H>,
     seat: &mut Seat<Edition, H>,
     request: &Request,
     told: Told,
@@ -182,17 +166,6 @@ pub(crate) fn is_seen<H: Home, R: Threads + Abort + Sync>(
     assert_eq!(rt; look(rt, seat, request), told);
 }
 
-/// A class of the letter of this number can't be kept, and all stays.
-pub(crate) fn fault_at<
-    K: Keep + Drop,
-    H: Home,
-    R: Threads + Wait + Abort + Alloc<A = Global> + Sync,
->(rt: &R, house: &House<Edition, K, H>, seat: &mut Seat<Edition, H>, entries: u64) {
-    let class = request(rt, Ask::Class(letter(entries)));
-    is_told(rt, house, seat, &class, Told::Fault, entries);
-    assert_eq!(rt; (seat.made(), seat.version()), (entries, entries));
-}
-
 /// Looks so many times, and says whether no version was below the one before.
 pub(crate) fn never_falls<H: Home>(seat: &mut Seat<Edition, H>, turns: u64) -> bool {
     for _ in 0..turns {
@@ -205,11 +178,12 @@ pub(crate) fn never_falls<H: Home>(seat: &mut Seat<Edition, H>, turns: u64) -> b
 }
 
 /// Starts so many processes, and says whether each was started.
-pub(crate) fn start_processes<
-    K: Keep + Drop,
-    H: Home,
-    R: Threads + Wait + Abort + Alloc<A = Global> + Sync,
->(rt: &R, house: &House<Edition, K, H>, seat: &mut Seat<Edition, H>, count: u64) -> bool {
+pub(crate) fn start_processes<H: Home, R: Threads + Wait + Abort + Alloc<A = Global> + Sync>(
+    rt: &R,
+    house: &House<Edition, NoKeep, H>,
+    seat: &mut Seat<Edition, H>,
+    count: u64,
+) -> bool {
     for _ in 0..count {
         let (told, _) = submit(rt, house, seat, &request(rt, Ask::Start(0)));
         if told != Told::Done {

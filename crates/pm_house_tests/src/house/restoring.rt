@@ -90,39 +90,3 @@ fn a_house_goes_on_from_a_history(rt: HostRuntime) {
     let (opened, blank) = house_room(2);
     three_entries::<Brand, _>(&rt, opened, blank)
 }
-
-// Two entries: a name that is taken, a number that is left out, a seat that isn't there.
-fn wrong<R: Abort + Alloc<A = Global>>(rt: &R, case: u32) -> [Entry; 2] {
-    match case {
-        0 => [entry(rt, 0, 1, "a"), entry(rt, 1, 1, "a")],
-        1 => [entry(rt, 0, 1, "a"), entry(rt, 0, 3, "b")],
-        _ => [entry(rt, 2, 1, "a"), entry(rt, 0, 1, "b")],
-    }
-}
-
-// The place of the first entry that no house of two seats makes there.
-fn illegal_at<H: Home, R: Threads + Wait + Abort + Alloc<A = Global> + Sync>(
-    rt: &R,
-    opened: Opened,
-    blank: Blank,
-    entries: &[Entry],
-) -> Option<u64>
-    requires room { opened ≡ H.book }
-    requires ledger { (blank.name ≡ H.name) × (blank.parts ≡ H.parts) }
-    requires seats { (H.all ≡ 2) × (H.parts ≡ 2) }
-{
-    match restored::<H, R>(rt, opened, blank, entries) {
-        Err(RestoreError::Illegal { at }) => Some(at),
-        _ => None,
-    }
-}
-
-#[test]
-fn what_no_house_makes_is_illegal(rt: HostRuntime) {
-    for (case, at) in [(0, 1), (1, 1), (2, 0)] {
-        let (opened, blank) = house_room(2);
-        let entries = wrong(&rt, case);
-        let place = illegal_at::<Brand, _>(&rt, opened, blank, &entries);
-        assert!(rt; place == Some(at));
-    }
-}

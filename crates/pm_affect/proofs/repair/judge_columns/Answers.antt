@@ -1,4 +1,4 @@
-use Rattle.std.proofs.Common.{filter, ap, sym, arith}
+use Rattle.std.proofs.Common.{filter, ap, sym, arith, refl}
 use Rattle.std.proofs.lemmas.List.Elements.{All-filter}
 use Rattle.pm_affect.specs.Live.{IsJudged}
 use Rattle.pm_affect.specs.Rows.{is_near, is_near_row}
@@ -62,3 +62,15 @@ pub returns-in-Whole-clause-asked : goal.returns-in-Whole-clause-asked
 returns-in-Whole-clause-asked g c =
     rw (row-whole (g.R.Reach.relation c.args.reach.now).below c.args.region.now c.args.user c.args.columns.now.all.now c.in-Whole.ensures.answer, length-row c.args.user c.args.columns.now.all.now)
     c.judge_row-in-Whole.ensures.asked
+
+pub returns-then-are_none-clause-lists : goal.returns-then-are_none-clause-lists
+returns-then-are_none-clause-lists g c =
+    rw (c.if-are_none.ensures refl (g.R.Reach.relation c.args.reach.now).below c.args.user c.requires.near) refl
+
+pub returns-then-are_none-clause-count : goal.returns-then-are_none-clause-count
+returns-then-are_none-clause-count g c =
+    rw (c.if-are_none.ensures refl (g.R.Reach.relation c.args.reach.now).below c.args.user c.requires.near) refl
+
+pub returns-then-are_none-clause-asked : goal.returns-then-are_none-clause-asked
+returns-then-are_none-clause-asked g c =
+    rw (c.if-are_none.ensures refl (g.R.Reach.relation c.args.reach.now).below c.args.user c.requires.near) (omega arith)

@@ -15,21 +15,21 @@ pub next_caps-i-requires : goal.next_caps-i-requires
 next_caps-i-requires g c =
     rw c.loop-n.invariant.caps (first-later (λ u. c.loop-n.i ≤ place u (subjects c.args.lists.now.caps)) c.args.users.now c.loop-n.n c.at-user.result.now c.at-user.ensures c.loop-n.invariant.place)
 
-pub judge_user-requires-clause-user : goal.judge_user-requires-clause-user
-judge_user-requires-clause-user g c =
+pub judge_next-requires-clause-user : goal.judge_next-requires-clause-user
+judge_next-requires-clause-user g c =
     subst (λ (r : Relation). IsLive r c.at-user.result.now) (sym c.loop-n.invariant.same)
     (all-at (IsLive (g.R.Reach.relation c.args.reach.now)) c.args.users.now c.loop-n.n c.at-user.result.now c.requires.users.search c.at-user.ensures)
 
-pub judge_user-requires-clause-judged_user : goal.judge_user-requires-clause-judged_user
-judge_user-requires-clause-judged_user g c =
+pub judge_next-requires-clause-judged_user : goal.judge_next-requires-clause-judged_user
+judge_next-requires-clause-judged_user g c =
     subst (λ (j : Judgement). IsJudged j c.at-user.result.now) (sym c.loop-n.invariant.judgement)
     (all-at (IsJudged (g.J.Judge.judgement c.args.judge.now)) c.args.users.now c.loop-n.n c.at-user.result.now c.requires.users.judge c.at-user.ensures)
 
-pub judge_user-requires-clause-near : goal.judge_user-requires-clause-near
-judge_user-requires-clause-near g c = rw (c.loop-n.invariant.caps, c.loop-n.invariant.same) (c.requires.near c.at-user.result.now)
+pub judge_next-requires-clause-near : goal.judge_next-requires-clause-near
+judge_next-requires-clause-near g c = rw (c.loop-n.invariant.caps, c.loop-n.invariant.same) (c.requires.near c.at-user.result.now)
 
-pub judge_user-requires-clause-room : goal.judge_user-requires-clause-room
-judge_user-requires-clause-room g c =
+pub judge_next-requires-clause-room : goal.judge_next-requires-clause-room
+judge_next-requires-clause-room g c =
     let inside = is_in (g.R.Reach.relation c.args.reach.now).below c.args.region.now in
     let scope = in_scope c.args.lists.now in
     let es = c.args.elements.now.all.now in
@@ -67,13 +67,14 @@ loop-n-preserved g c =
     let n : c.in_ok-count.field-0 ≡ length piece =
     rw (c.loop-n.invariant.same, c.loop-n.invariant.caps, c.loop-n.invariant.entries) at c.in_ok-count.ensures.count in
     record {
-      lists = one-more rights piece rest left c.loop-n.lists c.judge_user.new.lists _ split put c.loop-n.invariant.lists;
+      lists = one-more rights piece rest left c.loop-n.lists c.judge_next.new.lists _ split put c.loop-n.invariant.lists;
       caps = ap (λ (L : Lists). subjects L.caps) put ∙ put-caps rights piece c.loop-n.lists ∙ c.loop-n.invariant.caps;
       entries = ap (λ (L : Lists). subjects L.entries) put ∙ put-entries rights piece c.loop-n.lists ∙ c.loop-n.invariant.entries;
       count = count-more piece rest left c.loop-n.count _ _ split (ap (λ k. c.loop-n.count + k) n) c.loop-n.invariant.count;
       asked = count-more piece rest left _ _ _ split asked c.loop-n.invariant.asked;
       place = rw (c.next_caps-i.ensures, c.loop-n.invariant.caps)
           (places-later (subjects c.args.lists.now.caps) c.args.users.now c.loop-n.n c.at-user.result.now c.requires.users_rise c.at-user.ensures);
-      judgement = c.judge_user.ensures.judgement ∙ c.loop-n.invariant.judgement;
-      same = c.judge_user.ensures.same ∙ c.loop-n.invariant.same;
+      passed = rw c.loop-n.invariant.same at c.judge_next.ensures.passed;
+      judgement = c.judge_next.ensures.judgement ∙ c.loop-n.invariant.judgement;
+      same = c.judge_next.ensures.same ∙ c.loop-n.invariant.same;
     }

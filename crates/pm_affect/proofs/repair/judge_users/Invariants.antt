@@ -5,6 +5,7 @@ use Rattle.pm_affect.specs.Affected.{is_in}
 use Rattle.pm_affect.specs.Judged.{in_scope, judged}
 use Rattle.pm_affect.specs.Lists.{subjects}
 use Rattle.pm_affect.specs.Puts.{place, put_each}
+use Rattle.pm_affect.specs.Rows.{ArePassed, has_row}
 use Rattle.pm_affect.proofs.repair.judge_users.Given as goal
 
 abbrev pub invariant-loop-n : goal.invariant-loop-n
@@ -20,6 +21,7 @@ invariant-loop-n g l =
       count : l.count + length left ≡ length whole;
       asked : g.J.Judge.asked l.judge + length left ≡ g.J.Judge.asked l.fn.judge + length whole;
       place : Each (λ u. l.i ≤ place u (subjects l.fn.lists.caps)) (drop l.n l.users);
+      passed : ArePassed (has_row (g.R.Reach.relation l.fn.reach).below l.region) (g.R.Reach.relation l.fn.reach) l.asked;
       judgement : g.J.Judge.judgement l.judge ≡ g.J.Judge.judgement l.fn.judge;
       same : g.R.Reach.relation l.reach ≡ g.R.Reach.relation l.fn.reach;
     }

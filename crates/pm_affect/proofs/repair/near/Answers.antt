@@ -2,22 +2,23 @@ use Rattle.std.proofs.Common.{◌∙◌}
 use Rattle.pm_affect.specs.Rows.{is_near}
 use Rattle.pm_affect.proofs.Passing.{filter-here, filter-later}
 use Rattle.pm_affect.proofs.repair.near.Goals as goal
-use Rattle.pm_affect.proofs.repair.near.Goals.{then-is_near+in_ok-push, else-is_near}
+use Rattle.pm_affect.proofs.repair.near.Goals.{then-finds_near+in_ok-push, else-finds_near}
 
 pub loop-i-preserved : goal.loop-i-preserved
 loop-i-preserved g c =
     let test = is_near (g.R.Reach.relation c.args.reach.now).below c.args.region.now in record {
-      so_far = elim c.if-is_near.branch [
-        | then-is_near+in_ok-push w ↦
+      so_far = elim c.if-finds_near.branch [
+        | then-finds_near+in_ok-push w ↦
             rw (w.near-is, w.in_ok-push.ensures.ok)
             (filter-here test c.args.elements.now c.loop-i.i c.at-element.result.now c.loop-i.near c.at-element.ensures
-            (rw c.loop-i.invariant.same at w.if-is_near.ensures.answer))
+            (rw c.loop-i.invariant.same at w.if-finds_near.ensures.answer))
             ∙ c.loop-i.invariant.so_far
-        | else-is_near w ↦
+        | else-finds_near w ↦
             rw w.near-is
             (filter-later test c.args.elements.now c.loop-i.i c.at-element.result.now c.loop-i.near c.at-element.ensures
-            (rw c.loop-i.invariant.same at w.if-is_near.ensures.answer))
+            (rw c.loop-i.invariant.same at w.if-finds_near.ensures.answer))
             ∙ c.loop-i.invariant.so_far
       ];
-      same = c.is_near.ensures.same ∙ c.loop-i.invariant.same;
+      passed = rw c.loop-i.invariant.same at c.finds_near.ensures.passed;
+      same = c.finds_near.ensures.same ∙ c.loop-i.invariant.same;
     }

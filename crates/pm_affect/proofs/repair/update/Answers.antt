@@ -67,7 +67,7 @@ near-requires-clause-elements g c =
 
 pub near_for-requires-clause-users : goal.near_for-requires-clause-users
 near_for-requires-clause-users g c =
-    let same = c.in_ok-caps.ensures ∙ ap (λ (L : Lists). subjects L.caps) c.in_ok-clear.ensures ∙ cleared-caps_subjects c.args.region.now c.args.lists in
+    let same = ap (λ (L : Lists). subjects L.caps) c.in_ok-clear.ensures ∙ cleared-caps_subjects c.args.region.now c.args.lists in
     rw (same, c.in_ok-near_places.ensures.same)
     (caps-live (IsLive (g.R.Reach.relation c.args.reach.now)) _ _ _ c.args.elements.now c.args.users.now c.args.lists c.requires.users.search c.requires.lists)
 

@@ -10,6 +10,6 @@ invariant-loop-i g l =
     let test = near_on l.side (g.R.Reach.relation l.fn.reach).below l.region in
     record {
       rest : list_any test (subjects l.items) ≡ list_any test (drop l.i (subjects l.items));
-      passed : ArePassed test (g.R.Reach.relation l.fn.reach) l.passed;
+      passed : ArePassed test (g.R.Reach.relation l.fn.reach) l.asked;
       same : g.R.Reach.relation l.reach ≡ g.R.Reach.relation l.fn.reach;
     }

@@ -1,5 +1,5 @@
 use Rattle.std.proofs.Common.{◌≡◌, ◌<◌, ◌∙◌, ℕ, ap, sym, subst, length, map, Contains}
-use Rattle.pm_order.specs.Keyed.{association_in}
+use Rattle.pm_by_name.specs.Keyed.{association_in}
 use Rattle.pm_order.proofs.Standing.{elements_alone}
 use Rattle.pm_policy.specs.Order.{leads_before, order, sorted}
 use Rattle.pm_policy.specs.Policy.{standing}

@@ -1,7 +1,7 @@
 use Rattle.std.proofs.Common.{◌≡◌, ◌<◌, ◌∙◌, ◌++◌, ap, sym, subst, length, map, Contains}
 use Rattle.std.proofs.lemmas.Result.{on_ok_weaker}
 use Rattle.pm_model.specs.declared.requests.Command.TheVariants as command
-use Rattle.pm_order.specs.Keyed.{association_in}
+use Rattle.pm_by_name.specs.Keyed.{association_in}
 use Rattle.pm_policy.specs.Requests.{assign, associate, prohibit}
 use Rattle.pm_making.specs.Lines.{creating, lines_of}
 use Rattle.pm_making.proofs.Written.{five, front_then, parts-lines}

@@ -1,7 +1,7 @@
 use Rattle.std.proofs.Common.{◌∙◌, ◌++◌, ap, sym, None, get_or, map, take}
 use Rattle.std.proofs.lemmas.List.{append-nil, get_or_default}
 use Rattle.std.proofs.lemmas.List.Elements.{Contains-get_or}
-use Rattle.pm_order.specs.Keyed.{association_in}
+use Rattle.pm_by_name.specs.Keyed.{association_in}
 use Rattle.pm_policy.specs.Requests.{asked, associate}
 use Rattle.pm_print.specs.Requested.{request_text}
 use Rattle.pm_making.specs.Lines.{lines_of}

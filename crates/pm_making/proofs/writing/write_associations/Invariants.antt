@@ -1,5 +1,5 @@
 use Rattle.std.proofs.Common.{◌≡◌, ◌++◌, map, take}
-use Rattle.pm_order.specs.Keyed.{association_in}
+use Rattle.pm_by_name.specs.Keyed.{association_in}
 use Rattle.pm_policy.specs.Requests.{associate}
 use Rattle.pm_making.specs.Lines.{lines_of}
 use Rattle.pm_making.proofs.writing.write_associations.Given as goal

@@ -2,7 +2,6 @@ use Rattle.std.proofs.Common.{◌≡◌, ◌<◌, ◌+◌, ◌∙◌, ap, sym, s
 use Rattle.std.specs.List.{list_any}
 use Rattle.std.proofs.lemmas.List.{append-nil, length-map, take_more}
 use Rattle.std.proofs.Math.Seq.{drop-length, take-length}
-use Rattle.pm_policy.specs.Order.{is_made}
 use Rattle.pm_policy.specs.declared.policy.DocAssignment.{DocAssignment}
 use Rattle.pm_order.specs.Ranked.{containers_of, place}
 use Rattle.pm_order.proofs.Placed.{containers-added, containers_none, found-place, name_known, place-within}

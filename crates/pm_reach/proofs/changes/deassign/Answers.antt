@@ -4,6 +4,11 @@ use Rattle.pm_reach.proofs.Making.{deassign_ready}
 use Rattle.pm_reach.proofs.Orders.{less-contained, outside-told, deassigns}
 use Rattle.pm_reach.proofs.changes.deassign.Goals as goal
 
+pub remake_all-requires-clause-ready : goal.remake_all-requires-clause-ready
+remake_all-requires-clause-ready g c =
+    let there = deassign_ready c.args.table.now c.in-Deassign.is c.requires.step c.requires.taken in
+    there.1.rows
+
 pub remake_all-requires-clause-less : goal.remake_all-requires-clause-less
 remake_all-requires-clause-less g c = less-contained (g.P.Parents.assigned c.args.parents.now) c.args.table.now.rows c.args.x c.args.y c.requires.was
 

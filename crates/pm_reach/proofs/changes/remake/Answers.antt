@@ -1,7 +1,12 @@
--- The row of z has z, and all that rows have is within the words.
-use Rattle.pm_model.proofs.ContainmentLaws.{contained-itself}
+-- The row has no more than before, and all that rows have is within the words.
+use Rattle.std.proofs.Common.{sym, ◌∙◌}
 use Rattle.pm_reach.proofs.changes.remake.Goals as goal
 
-pub gather-requires-clause-z : goal.gather-requires-clause-z
-gather-requires-clause-z g c =
-    c.requires.within c.args.z c.args.z (c.requires.less c.args.z (contained-itself (g.P.Parents.assigned c.args.parents.now) c.args.z))
+pub fill-requires-clause-wide : goal.fill-requires-clause-wide
+fill-requires-clause-wide g c q h = c.requires.within c.args.z q (c.requires.less q h)
+
+pub overwrite-requires-clause-less : goal.overwrite-requires-clause-less
+overwrite-requires-clause-less g c q h = c.requires.less q (sym (c.fill.ensures.row q) ∙ h)
+
+pub returns-clause-row : goal.returns-clause-row
+returns-clause-row g c q = c.overwrite.ensures.row q ∙ c.fill.ensures.row q

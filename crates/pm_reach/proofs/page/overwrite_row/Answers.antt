@@ -1,7 +1,12 @@
 -- The row has what the other has, and nothing else.
-use Rattle.std.proofs.Common.{◌∙◌, refl}
-use Rattle.pm_reach.proofs.Tables.{written, replaced-new}
+use Rattle.std.proofs.Common.{◌∙◌, refl, sym}
+use Rattle.pm_reach.proofs.Tables.{written, replaced-old, replaced-new}
 use Rattle.pm_reach.proofs.page.overwrite_row.Goals as goal
+
+pub overwrite-requires : goal.overwrite-requires
+overwrite-requires c q h =
+    let r = written c.args.rows.now.items c.args.j _ c.index_mut.result.now c.in-Some-Own.row c.requires.ready c.index_mut.ensures.value c.in-Some-Own.is c.in-Some-Own.field-0-is in
+    sym (replaced-old r q) ∙ c.requires.less q h
 
 pub returns-clause-row : goal.returns-clause-row
 returns-clause-row c q =

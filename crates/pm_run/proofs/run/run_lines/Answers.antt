@@ -3,6 +3,3 @@ use Rattle.pm_run.proofs.run.run_lines.Goals as goal
 
 pub returns-in_default-clause-ran : goal.returns-in_default-clause-ran
 returns-in_default-clause-ran g c = ran-nothing _ _ _
-
-pub returns-in_default-opening-clause-ran : goal.returns-in_default-opening-clause-ran
-returns-in_default-opening-clause-ran g c = ran-nothing _ _ _

@@ -20,24 +20,24 @@ update-requires-clause-region c =
 
 pub update-requires-clause-users : goal.update-requires-clause-users
 update-requires-clause-users c =
-    rw (c.reach-reach.ensures.elements, c.reach-reach.ensures.assigned, c.in_ok-judge.ensures.graph, c.in_ok-live.ensures.users)
+    rw (c.reach-reach.ensures.elements, c.reach-reach.ensures.assigned, c.in_ok-judge.ensures.graph, c.in_ok-users.ensures)
     (users-asked c.args.graph.now c.formed.ensures)
 
 pub update-requires-clause-elements : goal.update-requires-clause-elements
 update-requires-clause-elements c =
-    rw (c.reach-reach.ensures.elements, c.reach-reach.ensures.assigned, c.in_ok-judge.ensures.graph, c.in_ok-live.ensures.elements)
+    rw (c.reach-reach.ensures.elements, c.reach-reach.ensures.assigned, c.in_ok-judge.ensures.graph, c.in_ok-elements.ensures)
     (elements-asked c.args.graph.now c.formed.ensures)
 
 pub update-requires-clause-users_rise : goal.update-requires-clause-users_rise
-update-requires-clause-users_rise c = rw (c.in_ok-live.ensures.users) (c.numbers_rise.ensures.users c.args.graph.now c.formed.ensures)
+update-requires-clause-users_rise c = rw (c.in_ok-users.ensures) (c.numbers_rise.ensures.users c.args.graph.now c.formed.ensures)
 
 pub update-requires-clause-elements_rise : goal.update-requires-clause-elements_rise
-update-requires-clause-elements_rise c = rw (c.in_ok-live.ensures.elements) (c.numbers_rise.ensures.elements c.args.graph.now c.formed.ensures)
+update-requires-clause-elements_rise c = rw (c.in_ok-elements.ensures) (c.numbers_rise.ensures.elements c.args.graph.now c.formed.ensures)
 
 pub update-requires-clause-room : goal.update-requires-clause-room
 update-requires-clause-room c =
     let few = few-pairs c.args.graph.now c.formed.ensures in
-    rw (c.in_ok-judge.ensures.asked, c.in_ok-live.ensures.users, c.in_ok-live.ensures.elements) (omega (arith, few))
+    rw (c.in_ok-judge.ensures.asked, c.in_ok-users.ensures, c.in_ok-elements.ensures) (omega (arith, few))
 
 pub update-requires-clause-lists : goal.update-requires-clause-lists
 update-requires-clause-lists c =
@@ -45,7 +45,7 @@ update-requires-clause-lists c =
     let H = c.args.graph.now in
     let due = c.requires in
     let same = due-same L H c.args.region.now due in
-    rw (c.reach-reach.ensures.assigned, c.in_ok-judge.ensures.graph, c.in_ok-live.ensures.elements, c.in_ok-live.ensures.users, due.asked.0)
+    rw (c.reach-reach.ensures.assigned, c.in_ok-judge.ensures.graph, c.in_ok-elements.ensures, c.in_ok-users.ensures, due.asked.0)
     (c.lists_right.ensures due.before H due.change due.formed due.named due.led L (are-lists L c.kept.ensures due.before due.listed)
     (are-live L c.kept.ensures due.before H c.formed.ensures same due.listed))
 
@@ -61,13 +61,13 @@ returns-clause-listed c =
     let due = c.requires in
     if-both c.update.result _ _ (λ (M : Lists). AreListed M H)
     (λ M caps entries. anew-listed L M H caps entries due.before (due-same L H c.args.region.now due) due.listed)
-    (rw (c.in_ok-judge.ensures.graph, c.in_ok-live.ensures.elements) at c.update.ensures.caps)
-    (rw (c.in_ok-judge.ensures.graph, c.in_ok-live.ensures.users) at c.update.ensures.entries)
+    (rw (c.in_ok-judge.ensures.graph, c.in_ok-elements.ensures) at c.update.ensures.caps)
+    (rw (c.in_ok-judge.ensures.graph, c.in_ok-users.ensures) at c.update.ensures.entries)
 
 pub returns-clause-charged : goal.returns-clause-charged
 returns-clause-charged c =
     let L = c.args.lists in
     let H = c.args.graph.now in
     IfOk-weaker c.update.result _ (λ (M : Lists). IsCharged L M H (Within c.args.region.now)) (λ M charged due.
-    rw (c.reach-reach.ensures.assigned, c.in_ok-live.ensures.elements, c.in_ok-live.ensures.users, ← due-judged L H c.args.region.now due) at charged)
+    rw (c.reach-reach.ensures.assigned, c.in_ok-elements.ensures, c.in_ok-users.ensures, ← due-judged L H c.args.region.now due) at charged)
     c.update.ensures.charged

@@ -2,7 +2,7 @@ use Rattle.std.proofs.Common.{◌≡◌, ◌∙◌, ap, subst, map, None, Some}
 use Rattle.std.specs.Prelude.{string_bytes}
 use Rattle.std.proofs.lemmas.Result.{IfOk-weaker}
 use Rattle.pm_words.specs.Words.{words_of, IsAsked}
-use Rattle.pm_words.specs.declared.words.Asked.TheVariants.{Run, Generate, Serve, ServeJournal, RequestLines}
+use Rattle.pm_words.specs.declared.words.Asked.TheVariants.{Run, Generate, Serve, ServeJournal, RequestLines, Export}
 use Rattle.pm_words.proofs.Exactly.{exactly}
 use Rattle.pm_words.proofs.words.read_words.Goals.{After-drop-words}
 use Rattle.pm_words.proofs.words.read_words.Goals as goal
@@ -29,6 +29,10 @@ returns-in_ok-words-in-Ok-clause-serve_journal c p w =
 pub returns-in_ok-words-in-Ok-clause-request_lines : goal.returns-in_ok-words-in-Ok-clause-request_lines
 returns-in_ok-words-in-Ok-clause-request_lines c =
     rw c.in-Ok.is (IfOk-weaker c.asked_in.result _ _ (λ asked is. exactly (words_of c.in-Ok.args) asked (Some RequestLines) (subst (λ words. IsAsked words asked) (read_as c) is)) c.asked_in.ensures)
+
+pub returns-in_ok-words-in-Ok-clause-export : goal.returns-in_ok-words-in-Ok-clause-export
+returns-in_ok-words-in-Ok-clause-export c =
+    rw c.in-Ok.is (IfOk-weaker c.asked_in.result _ _ (λ asked is. exactly (words_of c.in-Ok.args) asked (Some Export) (subst (λ words. IsAsked words asked) (read_as c) is)) c.asked_in.ensures)
 
 pub returns-in_ok-words-in-Ok-clause-other : goal.returns-in_ok-words-in-Ok-clause-other
 returns-in_ok-words-in-Ok-clause-other c =

@@ -29,6 +29,11 @@ returns-in-text-2 c words tells =
     let found = found_of c.args.values.now in
     said_by words (codes "request-lines") found (subst (λ name. Tells words name (rows_of found)) c.in-text-2.is tells) [] [] tt tt
 
+pub returns-in-export : goal.returns-in-export
+returns-in-export c words tells =
+    let found = found_of c.args.values.now in
+    said_by words (codes "export") found (subst (λ name. Tells words name (rows_of found)) c.in-export.is tells) [] [] tt tt
+
 pub returns-in_default : goal.returns-in_default
 returns-in_default c words tells =
-    absurd (other_told words c.args.name.now (rows_of (found_of c.args.values.now)) tells c.in_default.not-run c.in_default.not-generate c.in_default.not-serve c.in_default.not-text c.in_default.not-text-2)
+    absurd (other_told words c.args.name.now (rows_of (found_of c.args.values.now)) tells c.in_default.not-run c.in_default.not-generate c.in_default.not-serve c.in_default.not-text c.in_default.not-text-2 c.in_default.not-export)

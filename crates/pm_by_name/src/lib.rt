@@ -1,0 +1,8 @@
+//! The lists of a policy in the orders of their names, and what has names as keys.
+#![tactic(auto)]
+
+mod by_name;
+
+pub use by_name::{
+    ByBytes, assignments_by_name, associations_by_name, elements_by_name, values_by_key,
+};

@@ -1,0 +1,7 @@
+use Rattle.std.proofs.Common.{[], ◌∷◌}
+use Rattle.pm_print.proofs.Appending.{adds-as}
+use Rattle.pm_print.proofs.ItemTexts.{list_text}
+use Rattle.pm_document_text.proofs.told.add_pair.Goals as goal
+
+pub returns : goal.returns
+returns g c = adds-as _ _ _ _ _ (list_text (g.A.Told.told c.args.first.now ∷ g.B.Told.told c.args.second.now ∷ [])) c.add_bracketed_pair.ensures

@@ -1,0 +1,6 @@
+mod Bits
+mod Ends
+mod Gathering
+mod Ordering
+mod Steps
+mod Whole

@@ -1,7 +1,0 @@
-use Rattle.std.proofs.Common.{◌≡◌, ◌-◌, drop}
-use Rattle.pm_policy.specs.Order.{sorted}
-use Rattle.pm_order.specs.Keyed.{goes_first}
-use Rattle.pm_order.proofs.by_name.keyed.Given as goal
-
-abbrev pub invariant-loop-k : goal.invariant-loop-k
-invariant-loop-k g l = l.map.entries ≡ sorted (goes_first g.K.Ord.cmp) (drop (l.count - l.k) l.entries)

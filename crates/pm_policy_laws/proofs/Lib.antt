@@ -1,0 +1,4 @@
+mod Fit
+mod Reached
+mod Sound
+mod Stands
