@@ -1,2 +1,3 @@
 pub mod ByName
 pub mod Keyed
+pub mod Ordered

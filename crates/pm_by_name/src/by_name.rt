@@ -1,9 +1,9 @@
 //! What has names, by the bytes of these.
 
-ghost use Rattle.std.specs.Prelude.{◌≡◌, ℕ, ◌<◌, length, map, Contains, IfOk};
+ghost use Rattle.std.specs.Prelude.{◌≡◌, ℕ, ◌<◌, Bool, true, length, map, Contains, IfOk};
 ghost use Rattle.std.specs.BTreeMap.{values};
 ghost use Rattle.pm_by_name.specs.Keyed.{association_entries, association_in, assignment_entry, cmp_both, cmp_bytes, element_entry, ends_key, goes_first, has_key_of};
-ghost use Rattle.pm_policy.specs.Order.{leads_before, sorted, stands_before};
+ghost use Rattle.pm_policy.specs.Order.{is_below, leads_before, sorted, stands_before};
 ghost use Rattle.pm_policy.specs.Requests.{joins_before};
 ghost use Rattle.pm_policy.specs.Sound.{AreOnce, AreOnceAssigned, AreOnceCalled, has_ends};
 
@@ -52,6 +52,57 @@ impl PartialOrd for ByBytes {
     fn partial_cmp(&self, other: &ByBytes) -> Option<Ordering> {
         Some(self.cmp(other))
     }
+}
+
+fn is_below(a: &Name, b: &Name) -> bool
+    ensures { result ≡ is_below a.now b.now }
+{
+    match a.bytes().cmp(b.bytes()) {
+        Ordering::Less => true,
+        Ordering::Equal => false,
+        Ordering::Greater => false,
+    }
+}
+
+/// An item of a list that stands by names.
+trait ByName: Copy + Drop {
+    /// Whether the first stands before the second.
+    ghost before: { Self → Self → Bool };
+
+    fn is_before(&self, other: &Self) -> bool
+        ensures { result ≡ before self.now other.now };
+}
+
+impl ByName for DocElement {
+    ghost before = { stands_before };
+
+    fn is_before(&self, other: &DocElement) -> bool {
+        is_below(&self.name, &other.name)
+    }
+}
+
+impl ByName for DocAssignment {
+    ghost before = { leads_before };
+
+    fn is_before(&self, other: &DocAssignment) -> bool {
+        match self.from.bytes().cmp(other.from.bytes()) {
+            Ordering::Less => true,
+            Ordering::Equal => is_below(&self.to, &other.to),
+            Ordering::Greater => false,
+        }
+    }
+}
+
+/// Whether each item stands before the next: what is exported stands so.
+fn are_in_order<T: ByName>(items: &[T]) -> bool
+    ensures { result ≡ true → sorted T.before items.now ≡ items.now }
+{
+    for k in 1..items.len() {
+        if !items[k - 1].is_before(&items[k]) {
+            return false;
+        }
+    }
+    true
 }
 
 fn keyed<K: Ord + Copy + Drop, V: Copy + Drop>(
@@ -104,6 +155,9 @@ pub fn elements_by_name(alloc: Global, elements: &[DocElement]) -> Result<Vec<Do
     requires { AreOnceCalled elements.now }
     ensures { IfOk result (λ v. v.items ≡ sorted stands_before elements.now) }
 {
+    if are_in_order(elements) {
+        return Ok(Vec::from_slice(alloc, elements)?);
+    }
     let entries = element_entries(alloc, elements)?;
     values_by_key(alloc, entries.as_slice())
 }
@@ -129,6 +183,9 @@ pub fn assignments_by_name(
     requires { AreOnceAssigned pairs.now }
     ensures { IfOk result (λ v. v.items ≡ sorted leads_before pairs.now) }
 {
+    if are_in_order(pairs) {
+        return Ok(Vec::from_slice(alloc, pairs)?);
+    }
     let entries = assignment_entries(alloc, pairs)?;
     values_by_key(alloc, entries.as_slice())
 }

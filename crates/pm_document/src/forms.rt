@@ -59,7 +59,7 @@ impl Form for Name {
 fn list_of<T: Form>(alloc: Global, items: &[Value]) -> Result<ItemList<T>, DocumentError>
     ensures { Reads result (list_of T.form (items_view items.now)) }
 {
-    let mut list = ItemList::new(alloc);
+    let mut list = ItemList::with_room(alloc, items.len())?;
     for value in items {
         let item = T::read(alloc, value)?;
         list.push(item)?;

@@ -11,7 +11,7 @@ use Rattle.pm_policy.specs.Order.{order, sorted}
 use Rattle.pm_policy.specs.Requests.{asked, assign, associate, by_name, create, joins_before, others, prohibit}
 use Rattle.pm_policy.specs.declared.policy.Policy.{Policy}
 use Rattle.pm_print.specs.Requested.{request_text}
-use Rattle.pm_making.specs.Lines.{creating, creation, document_lines, lines_of, ArePartsOf}
+use Rattle.pm_making.specs.Lines.{document_lines, lines_of, ArePartsOf}
 use Rattle.pm_making.specs.declared.lines.Parts.{Parts}
 
 -- ---- what stood stands
@@ -73,7 +73,7 @@ map-map f g (x ∷ xs) = ap (λ l. g (f x) ∷ l) (map-map f g xs)
 
 -- the lines of the parts are those of the document
 pub parts-lines : (D : Policy) (p : Parts) → ArePartsOf D p →
-    lines_of (map command.DefineRight D.rights) ++ lines_of (map creating p.creations.items) ++ lines_of (map assign p.others.items)
+    lines_of (map command.DefineRight D.rights) ++ lines_of (map (create p.assignments) p.ordered.items) ++ lines_of (map assign p.others.items)
     ++ lines_of (map (λ k. associate (association_in D.associations k)) p.associations.items) ++ lines_of (map prohibit D.prohibitions)
     ≡ document_lines D
 parts-lines D p parts =
@@ -81,8 +81,8 @@ parts-lines D p parts =
     let creations = map (create (by_name D)) (order (by_name D) D.elements) in
     let assigned = map assign (others D.elements (by_name D)) in
     let associated = map associate (sorted joins_before D.associations) in
-    let made : map creating p.creations.items ≡ creations =
-    ap (λ l. map creating l) parts.creations ∙ map-map (creation (by_name D)) creating (order (by_name D) D.elements) in
+    let made : map (create p.assignments) p.ordered.items ≡ creations =
+    ap (λ ps. map (create ps) p.ordered.items) parts.assignments ∙ ap (λ l. map (create (by_name D)) l) parts.ordered in
     let other : map assign p.others.items ≡ assigned = ap (λ l. map assign l) parts.others in
     let joined : map (λ k. associate (association_in D.associations k)) p.associations.items ≡ associated =
     sym (map-map (association_in D.associations) associate p.associations.items) ∙ ap (λ l. map associate l) parts.associations in

@@ -1,11 +1,8 @@
 -- The lines of commands. The project's own.
-use Rattle.std.specs.Prelude.{◌≡◌, ℕ, ◌<◌, List, [], ◌∷◌, ◌++◌, length, map, None, bytes_eq, Contains}
-use Rattle.std.specs.Map.{lookup}
+use Rattle.std.specs.Prelude.{◌≡◌, ℕ, ◌<◌, List, [], ◌∷◌, ◌++◌, length, map, None, Contains}
 use Rattle.pm_model.specs.declared.requests.Command.{Command}
 use Rattle.pm_policy.specs.Order.{order, sorted}
-use Rattle.pm_policy.specs.Requests.{asked, by_name, commands, created_in, first_assignment, joins_before, others}
-use Rattle.pm_policy.specs.declared.policy.DocAssignment.{DocAssignment}
-use Rattle.pm_policy.specs.declared.policy.DocElement.{DocElement}
+use Rattle.pm_policy.specs.Requests.{asked, by_name, commands, created_in, joins_before, others}
 use Rattle.pm_policy.specs.declared.policy.Policy.{Policy}
 use Rattle.pm_print.specs.Requested.{request_text}
 use Rattle.pm_making.specs.declared.lines.Parts.{Parts}
@@ -21,20 +18,13 @@ lines_of (c ∷ cs) = request_text None (asked c) ++ lines_of cs
 abbrev pub document_lines : Policy → List ℕ
 document_lines D = lines_of (commands D)
 
--- the entries tell the first assignment of each name
-abbrev pub AreFirst : List (List ℕ × DocAssignment) → List DocAssignment → Type 0
-AreFirst entries pairs = (name : List ℕ) → lookup (bytes_eq name) entries ≡ first_assignment pairs name
-
--- an element and the assignment with which it is made
-abbrev pub creation : List DocAssignment → DocElement → Creation
-creation pairs e = record { element = e; first = first_assignment pairs e.name }
-
 abbrev pub creating : Creation → Command
 creating c = created_in c.element c.first
 
 -- what stands in another order in the document, or is told otherwise
 pub record ArePartsOf (D : Policy) (p : Parts) : Type 0 where
-  pub creations : p.creations.items ≡ map (creation (by_name D)) (order (by_name D) D.elements)
+  pub ordered : p.ordered.items ≡ order (by_name D) D.elements
+  pub assignments : p.assignments ≡ by_name D
   pub others : p.others.items ≡ others D.elements (by_name D)
   -- the associations by their places
   pub associations : map (association_in D.associations) p.associations.items ≡ sorted joins_before D.associations

@@ -1,15 +1,14 @@
 //! The assignments of a document, and which of them come with their elements.
 
-ghost use Rattle.std.specs.Prelude.{◌≡◌, ◌&&◌, filter, map, not, bytes_eq, IfOk};
-ghost use Rattle.std.specs.List.{list_any};
-ghost use Rattle.pm_making.specs.Lines.{AreFirst, creation};
+ghost use Rattle.std.specs.Prelude.{◌≡◌, ◌&&◌, not, IfOk};
+ghost use Rattle.pm_making.specs.Firsts.{AreFirst, creation, later};
+ghost use Rattle.pm_policy.specs.Order.{is_made};
+ghost use Rattle.pm_policy.specs.Policy.{opening_docs};
 ghost use Rattle.pm_policy.specs.Requests.{first_assignment, is_first_of};
-ghost use Rattle.pm_policy.specs.declared.policy.DocAssignment.{DocAssignment};
 
 use crate::requests::Creation;
 use indexmap::IndexMap;
 use pm_model::{Memory, Name};
-use pm_order::Places;
 use pm_policy::{DocAssignment, DocElement};
 use std::alloc::Global;
 use std::marker::Model;
@@ -17,7 +16,8 @@ use std::marker::Model;
 /// Assignments, with the first of each name at hand. Contracts see their list.
 pub(crate) struct Assignments {
     pairs: Vec<DocAssignment>,
-    first: IndexMap<Name, DocAssignment>,
+    // By their places.
+    first: IndexMap<Name, usize>,
 }
 
 impl Drop for Assignments {
@@ -28,29 +28,35 @@ impl Drop for Assignments {
 
 impl Model for Assignments {
     ghost use Rattle.std.specs.Prelude.{List};
-    ghost use Rattle.pm_making.specs.Lines.{AreFirst};
+    ghost use Rattle.pm_making.specs.Firsts.{AreFirst};
     ghost use Rattle.pm_policy.specs.declared.policy.DocAssignment.{DocAssignment};
 
     ghost Value = { List DocAssignment };
 
     ghost view = { λ a. a.pairs.items };
 
-    ghost invariant = { λ a. AreFirst a.first.entries a.pairs.items };
+    ghost invariant = { λ a. AreFirst a.pairs.items a.first.entries a.pairs.items };
 }
 
-fn first_of_each(
-    alloc: Global,
-    pairs: &[DocAssignment],
-) -> Result<IndexMap<Name, DocAssignment>, Memory>
-    ensures { IfOk result (λ m. AreFirst m.entries pairs.now) }
+/// The place of the first assignment of each name.
+fn first_of_each(alloc: Global, pairs: &[DocAssignment]) -> Result<IndexMap<Name, usize>, Memory>
+    ensures { IfOk result (λ m. AreFirst pairs.now m.entries pairs.now) }
 {
-    let mut first = IndexMap::new(alloc);
     let count = pairs.len();
+    let mut first = IndexMap::with_capacity(alloc, count)?;
     for k in 0..count {
-        let pair = pairs[count - 1 - k];
-        first.insert(pair.from, pair)?;
+        let place = count - 1 - k;
+        first.insert(pairs[place].from, place)?;
     }
     Ok(first)
+}
+
+/// Whether the opening has an element of the name.
+fn is_of_opening(name: &Name) -> bool
+    ensures { result ≡ is_made opening_docs name.now }
+{
+    let name = name.bytes();
+    name == "pm".as_bytes() || name == "pm_admins".as_bytes() || name == "root".as_bytes()
 }
 
 fn is_first_of(pair: &DocAssignment, first: Option<DocAssignment>) -> bool
@@ -75,42 +81,33 @@ impl Assignments {
         ensures { result ≡ first_assignment self.now name.now }
     {
         match self.first.get(name) {
-            Some(pair) => Some(*pair),
+            Some(place) => self.pairs.get(*place).copied(),
             None => None,
         }
     }
 
-    // Whether one of these elements is made with the assignment.
-    fn is_first(&self, elements: &Places, pair: &DocAssignment) -> bool
-        ensures { result ≡ (list_any (bytes_eq pair.now.from) elements.now && is_first_of pair.now (first_assignment self.now pair.now.from)) }
+    // Whether an element of the document is made with the assignment.
+    fn is_first(&self, pair: &DocAssignment) -> bool
+        ensures { result ≡ (not (is_made opening_docs pair.now.from) && is_first_of pair.now (first_assignment self.now pair.now.from)) }
     {
-        elements.contains(&pair.from) && is_first_of(pair, self.first(&pair.from))
+        !is_of_opening(&pair.from) && is_first_of(pair, self.first(&pair.from))
     }
 
-    /// Those that no element is made with, of these elements.
-    pub(crate) fn others(
-        &self,
-        alloc: Global,
-        elements: &Places,
-    ) -> Result<Vec<DocAssignment>, Memory>
-        ensures { IfOk result (λ v. v.items ≡ filter (λ (p : DocAssignment). not (list_any (bytes_eq p.from) elements.now && is_first_of p (first_assignment self.now p.from))) self.now) }
+    /// Those that no element of the document is made with.
+    pub(crate) fn others(&self, alloc: Global) -> Result<Vec<DocAssignment>, Memory>
+        ensures { IfOk result (λ v. v.items ≡ later self.now) }
     {
-        let other = |pair: &&DocAssignment| !self.is_first(elements, pair);
+        let other = |pair: &&DocAssignment| !self.is_first(pair);
         Ok(self.pairs.iter().filter(other).copied().collect(alloc)?)
     }
 
-    /// The elements, each with the first of its assignments.
-    pub(crate) fn creations(
-        &self,
-        alloc: Global,
-        elements: &[DocElement],
-    ) -> Result<Vec<Creation>, Memory>
-        ensures { IfOk result (λ v. v.items ≡ map (creation self.now) elements.now) }
+    /// An element with the first of its assignments.
+    pub(crate) fn creation(&self, element: &DocElement) -> Creation
+        ensures { result ≡ creation self.now element.now }
     {
-        let creation = |element: &DocElement| Creation {
+        Creation {
             element: *element,
             first: self.first(&element.name),
-        };
-        Ok(elements.iter().map(creation).collect(alloc)?)
+        }
     }
 }

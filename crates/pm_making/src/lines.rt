@@ -5,17 +5,17 @@ ghost use Rattle.pm_making.specs.Lines.{document_lines, ArePartsOf};
 ghost use Rattle.pm_policy.specs.Sound.{IsSound};
 
 use crate::assignments::Assignments;
-use crate::requests::Creation;
-use crate::writing::{whole_or_none, write_all, write_associations};
+use crate::writing::{whole_or_none, write_all, write_associations, write_creations};
 use pm_by_name::{assignments_by_name, associations_by_name};
 use pm_model::Memory;
-use pm_order::{Places, order};
-use pm_policy::{DocAssignment, Policy};
+use pm_order::order;
+use pm_policy::{DocAssignment, DocElement, Policy};
 use std::alloc::Global;
 
 /// The parts of a document that stand in another order in it.
 struct Parts {
-    creations: Vec<Creation>,
+    ordered: Vec<DocElement>,
+    assignments: Assignments,
     others: Vec<DocAssignment>,
     associations: Vec<usize>,
 }
@@ -23,7 +23,8 @@ struct Parts {
 impl Drop for Parts {
     fn drop(self) {
         let Parts {
-            creations: _,
+            ordered: _,
+            assignments: _,
             others: _,
             associations: _,
         } = self;
@@ -38,11 +39,13 @@ fn arrange(alloc: Global, policy: &Policy) -> Result<Parts, Memory>
     let pairs = assignments_by_name(alloc, policy.assignments.as_slice())?;
     let ordered = order(alloc, elements, pairs.as_slice())?;
     let assignments = Assignments::new(alloc, pairs)?;
-    let places = Places::new(alloc, elements)?;
+    let others = assignments.others(alloc)?;
+    let associations = associations_by_name(alloc, policy.associations.as_slice())?;
     Ok(Parts {
-        creations: assignments.creations(alloc, ordered.as_slice())?,
-        others: assignments.others(alloc, &places)?,
-        associations: associations_by_name(alloc, policy.associations.as_slice())?,
+        ordered,
+        assignments,
+        others,
+        associations,
     })
 }
 
@@ -53,7 +56,7 @@ fn write_parts(policy: &Policy, parts: &Parts, out: &mut Vec<u8>) -> Result<(), 
     ensures front { take (length out.old.items) out.new.items ≡ out.old.items }
 {
     write_all(policy.rights.as_slice(), out)?;
-    write_all(parts.creations.as_slice(), out)?;
+    write_creations(parts.ordered.as_slice(), &parts.assignments, out)?;
     write_all(parts.others.as_slice(), out)?;
     write_associations(
         policy.associations.as_slice(),

@@ -6,4 +6,3 @@ mod places;
 mod turns;
 
 pub use in_order::{has_order, order};
-pub use places::Places;

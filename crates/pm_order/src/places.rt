@@ -14,7 +14,7 @@ use std::alloc::Global;
 use std::marker::Model;
 
 /// The names of some elements, each with its place from 0 on. Contracts see their list.
-pub struct Places {
+struct Places {
     names: IndexSet<Name>,
 }
 
@@ -34,22 +34,15 @@ impl Model for Places {
 
 impl Places {
     /// The names of the elements, in their order.
-    pub fn new(alloc: Global, elements: &[DocElement]) -> Result<Places, Memory>
+    fn new(alloc: Global, elements: &[DocElement]) -> Result<Places, Memory>
         requires { AreOnceCalled elements.now }
         ensures { IfOk result (λ p. p ≡ map (λ (e : DocElement). e.name) elements.now) }
     {
-        let mut names = IndexSet::new(alloc);
+        let mut names = IndexSet::with_capacity(alloc, elements.len())?;
         for element in elements {
             names.insert(element.name)?;
         }
         Ok(Places { names })
-    }
-
-    /// Whether the name is among them.
-    pub fn contains(&self, name: &Name) -> bool
-        ensures { result ≡ list_any (bytes_eq name.now) self.now }
-    {
-        self.names.contains(name)
     }
 
     // The place of a name that is among them.

@@ -23,11 +23,12 @@ other_act w x read rest differ later = sym (other w x read rest differ (sym late
 no_row : (look : List ℕ → Option Data) (w : List ℕ) → IsNoneOf session_words w → IsNoneOf element_words w → IsNoneOf rule_words w
     → IsNoneOf review_words w → row_of look w ≡ None
 no_row look w s e r v =
-    other w _ _ _ s.0 (other w _ _ _ s.1.0 (other w _ _ _ s.1.1.0 (other w _ _ _ s.1.1.1.0 (other w _ _ _ s.1.1.1.1.0 (other w _ _ _ e.0 (
-    other w _ _ _ e.1.0 (other w _ _ _ e.1.1.0 (other w _ _ _ e.1.1.1.0 (other w _ _ _ e.1.1.1.1.0 (other w _ _ _ e.1.1.1.1.1.0 (other w _ _ _ e.1.1.1.1.1.1.0 (
-    other w _ _ _ e.1.1.1.1.1.1.1.0 (other w _ _ _ r.0 (other w _ _ _ r.1.0 (other w _ _ _ r.1.1.0 (other w _ _ _ r.1.1.1.0 (other w _ _ _ r.1.1.1.1.0 (
-    other w _ _ _ r.1.1.1.1.1.0 (other w _ _ _ r.1.1.1.1.1.1.0 (other w _ _ _ v.0 (other w _ _ _ v.1.0 (other w _ _ _ v.1.1.0 (other w _ _ _ v.1.1.1.0 (
-    other w _ _ _ v.1.1.1.1.0 (other w _ _ _ v.1.1.1.1.1.0 (other w _ _ _ v.1.1.1.1.1.1.0 (other w _ _ _ v.1.1.1.1.1.1.1.0 (refl))))))))))))))))))))))))))))
+    other w _ _ _ s.0 (other w _ _ _ s.1.1.0 (other w _ _ _ s.1.1.1.0 (other w _ _ _ s.1.1.1.1.0 (other w _ _ _ s.1.1.1.1.1.0 (other w _ _ _ e.0 (
+    other w _ _ _ e.1.0 (other w _ _ _ e.1.1.0 (other w _ _ _ e.1.1.1.0 (other w _ _ _ e.1.1.1.1.0 (other w _ _ _ e.1.1.1.1.1.0 (
+    other w _ _ _ e.1.1.1.1.1.1.0 (other w _ _ _ e.1.1.1.1.1.1.1.0 (other w _ _ _ r.0 (other w _ _ _ r.1.0 (other w _ _ _ r.1.1.0 (
+    other w _ _ _ r.1.1.1.0 (other w _ _ _ r.1.1.1.1.0 (other w _ _ _ r.1.1.1.1.1.0 (other w _ _ _ r.1.1.1.1.1.1.0 (other w _ _ _ v.0 (
+    other w _ _ _ v.1.0 (other w _ _ _ s.1.0 (other w _ _ _ v.1.1.0 (other w _ _ _ v.1.1.1.0 (other w _ _ _ v.1.1.1.1.0 (other w _ _ _ v.1.1.1.1.1.0 (
+    other w _ _ _ v.1.1.1.1.1.1.0 (refl))))))))))))))))))))))))))))
 
 -- the row was looked for among all words
 pub last_group : (look : List ℕ → Option Data) (w : List ℕ) (found : Option (Result Body ReadError)) → IsNoneOf session_words w

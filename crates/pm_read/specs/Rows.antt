@@ -11,7 +11,7 @@ use Rattle.pm_read.specs.Reads.{ReadsRow}
 use Rattle.pm_read.specs.declared.errors.ReadError.{ReadError}
 
 abbrev pub session_words : List Word
-session_words = word.Version ∷ word.OpenSession ∷ word.CloseSession ∷ word.StartProcess ∷ word.EndProcess ∷ []
+session_words = word.Version ∷ word.Access ∷ word.OpenSession ∷ word.CloseSession ∷ word.StartProcess ∷ word.EndProcess ∷ []
 
 abbrev pub element_words : List Word
 element_words =
@@ -22,7 +22,7 @@ rule_words = word.Associate ∷ word.Dissociate ∷ word.Prohibit ∷ word.Lift 
 
 abbrev pub review_words : List Word
 review_words =
-    word.Keep ∷ word.DropReview ∷ word.Access ∷ word.Caps ∷ word.Entries ∷ word.Survey ∷ word.Kept ∷ word.Changes ∷ []
+    word.Keep ∷ word.DropReview ∷ word.Caps ∷ word.Entries ∷ word.Survey ∷ word.Kept ∷ word.Changes ∷ []
 
 -- those of an action's acts that are looked for first
 abbrev pub act_words : List Word

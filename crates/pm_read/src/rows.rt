@@ -318,13 +318,14 @@ fn plain_review(question: Result<Question, BadLine>, value: &Value) -> Result<Bo
     }
 }
 
-// The row of a word of sessions and processes, or of the version.
+// The row of the version, of an access, or of a word of sessions and processes.
 #[tactic(auto, unfolding(pm_model::specs::Words::word_text))]
 fn session_row(word: &str, value: &Value) -> Option<Result<Body, ReadError>>
     ensures { FindsRow session_words word.now (row_of (looking (view value.now)) word.now) result }
 {
     match word {
         "version" => Some(Ok(Body::Version)),
+        "access" => Some(access(value)),
         "open_session" => Some(open_session(value)),
         "close_session" => Some(close_session(value)),
         "start_process" => Some(start_process(value)),
@@ -334,6 +335,7 @@ fn session_row(word: &str, value: &Value) -> Option<Result<Body, ReadError>>
 }
 
 // The row of a word of elements.
+#[inline(never)]
 #[tactic(auto, unfolding(pm_model::specs::Words::word_text))]
 fn element_row(word: &str, value: &Value) -> Option<Result<Body, ReadError>>
     ensures { FindsRow element_words word.now (row_of (looking (view value.now)) word.now) result }
@@ -352,6 +354,7 @@ fn element_row(word: &str, value: &Value) -> Option<Result<Body, ReadError>>
 }
 
 // The row of a word of what gives rights, takes them or acts.
+#[inline(never)]
 #[tactic(auto, unfolding(pm_model::specs::Words::word_text))]
 fn rule_row(alloc: Global, word: &str, value: &Value) -> Option<Result<Body, ReadError>>
     ensures { FindsRow rule_words word.now (row_of (looking (view value.now)) word.now) result }
@@ -368,7 +371,8 @@ fn rule_row(alloc: Global, word: &str, value: &Value) -> Option<Result<Body, Rea
     }
 }
 
-// The row of an access, or of a word of reviews.
+// The row of a word of reviews.
+#[inline(never)]
 #[tactic(auto, unfolding(pm_model::specs::Words::word_text))]
 fn review_row(alloc: Global, word: &str, value: &Value) -> Option<Result<Body, ReadError>>
     ensures { FindsRow review_words word.now (row_of (looking (view value.now)) word.now) result }
@@ -376,7 +380,6 @@ fn review_row(alloc: Global, word: &str, value: &Value) -> Option<Result<Body, R
     match word {
         "keep" => Some(plain_admin(keep(value), value)),
         "drop_review" => Some(plain_admin(drop_review(value), value)),
-        "access" => Some(access(value)),
         "caps" => Some(plain_review(caps(value), value)),
         "entries" => Some(plain_review(entries(value), value)),
         "survey" => Some(review(survey(alloc, value), value)),
@@ -386,7 +389,8 @@ fn review_row(alloc: Global, word: &str, value: &Value) -> Option<Result<Body, R
     }
 }
 
-/// The row of the word, where it is one.
+/// The row of the word, where it is one. The version and an access come first. The other groups stand by themselves, since a function
+/// clears its locals at entry, and those of what is made a part of it.
 pub(crate) fn row(alloc: Global, word: &str, value: &Value) -> Option<Result<Body, ReadError>>
     ensures { ReadsRow result (row_of (looking (view value.now)) word.now) }
 {

@@ -1,5 +1,5 @@
 -- Elements are found in a map from names to kinds as in a list.
-use Rattle.std.proofs.Common.{◌≡◌, ◌<◌, ◌+◌, ℕ, Bool, true, false, List, [], ◌∷◌, ◌++◌, map, find, Some, option_map, bytes_eq, refl, sym, ap, ◌∙◌, subst, inl, inr, take, drop, get_or, length}
+use Rattle.std.proofs.Common.{◌≡◌, ◌<◌, ◌+◌, ℕ, Bool, true, false, List, [], ◌∷◌, ◌++◌, map, Some, option_map, bytes_eq, refl, sym, ap, ◌∙◌, subst, inl, inr, take, drop, get_or, length}
 use Rattle.std.specs.List.{list_any, position_from}
 use Rattle.std.specs.Map.{lookup}
 use Rattle.std.specs.Option.{is_some}
@@ -29,12 +29,12 @@ put (e ∷ es) name kind free =
     let parts = or_parts (bytes_eq name e.0) (is_made (map element es) name) free in
     rw parts.0 (ap (λ l. element e ∷ l) (put es name kind parts.1))
 
--- something is found exactly where something passes
-pub is_some_find : {X : Type 0} (test : X → Bool) (xs : List X) → is_some (find test xs) ≡ list_any test xs
-is_some_find test [] = refl
-is_some_find test (x ∷ xs) = elim (cases_Bool (test x)) [
+-- a name is found exactly where one of the elements has it
+pub looked_up : (name : List ℕ) (es : List (List ℕ × Kind)) → is_some (lookup (bytes_eq name) es) ≡ is_made (map element es) name
+looked_up name [] = refl
+looked_up name (e ∷ es) = elim (cases_Bool (bytes_eq name e.0)) [
   | inl is ↦ rw is refl
-  | inr other ↦ rw other (is_some_find test xs)
+  | inr other ↦ rw other (looked_up name es)
 ]
 
 pub is_some_position : {X : Type 0} (test : X → Bool) (i : ℕ) (xs : List X) → is_some (position_from test i xs) ≡ list_any test xs
@@ -51,20 +51,17 @@ module _ (all elements : List DocElement) (i : ℕ) (x : DocElement) (below : i 
   swapped d e = bytes-swapped d.name e.name
 
   -- one whose name is taken
-  pub taken : is_some (called all x.name) ≡ true → AreOnceCalled elements → ⊥
-  taken found once =
+  pub taken : is_made all x.name ≡ true → AreOnceCalled elements → ⊥
+  taken there once =
       let whole = subst AreOnceCalled (sym (parted elements i x below is)) once in
       let no = once-apart (λ (d : DocElement). is_called d.name) swapped (take i elements) x (drop (i + 1) elements) whole in
-      let yes : is_made all x.name ≡ true = sym (is_some_find (is_called x.name) all) ∙ found in cc
+      let before : is_made (take i elements) x.name ≡ true = subst (λ l. is_made l x.name ≡ true) so_far there in cc
 
   -- one whose name is free
-  pub free : is_some (called all x.name) ≡ false → is_made all x.name ≡ false
-  free none = sym (is_some_find (is_called x.name) all) ∙ none
-
   pub more : (new : List DocElement) → new ≡ all ++ x ∷ [] → new ≡ take (i + 1) elements
   more new made = made ∙ ap (λ l. l ++ x ∷ []) so_far ∙ sym (pushed elements i x below is)
 
-  pub more-once : is_some (called all x.name) ≡ false → AreOnceCalled (take i elements) → AreOnceCalled (take (i + 1) elements)
-  more-once none once =
-      let new : is_made (take i elements) x.name ≡ false = subst (λ l. is_made l x.name ≡ false) so_far (free none) in
+  pub more-once : is_made all x.name ≡ false → AreOnceCalled (take i elements) → AreOnceCalled (take (i + 1) elements)
+  more-once free once =
+      let new : is_made (take i elements) x.name ≡ false = subst (λ l. is_made l x.name ≡ false) so_far free in
       subst AreOnceCalled (sym (pushed elements i x below is)) (once-push (λ (d : DocElement). is_called d.name) swapped (take i elements) x once new)

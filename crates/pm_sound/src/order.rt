@@ -20,7 +20,7 @@ use std::alloc::Global;
 fn assigned_names(alloc: Global, pairs: &[DocAssignment]) -> Result<IndexSet<Name>, Memory>
     ensures { IfOk result (λ names. (name : List ℕ) → list_any (bytes_eq name) names.keys ≡ list_any (is_assigned name) pairs.now) }
 {
-    let mut names = IndexSet::new(alloc);
+    let mut names = IndexSet::with_capacity(alloc, pairs.len())?;
     for pair in pairs {
         names.insert(pair.from)?;
     }

@@ -1,6 +1,6 @@
 //! The elements that stand once a document is made, found by name.
 
-ghost use Rattle.std.specs.Prelude.{◌≡◌, [], ◌∷◌, ◌++◌, false, OnOk, IfOk};
+ghost use Rattle.std.specs.Prelude.{◌≡◌, [], ◌∷◌, ◌++◌, false, IfOk};
 ghost use Rattle.pm_policy.specs.Order.{is_made};
 ghost use Rattle.pm_policy.specs.Policy.{called};
 ghost use Rattle.pm_policy.specs.Sound.{AreOnceCalled};
@@ -49,14 +49,14 @@ impl Standing {
         }
     }
 
-    /// Puts an element whose name is free behind the others. On Memory all is as before.
-    #[tactic(auto, using(crate::proofs::Found::put))]
-    fn put(&mut self, element: DocElement) -> Result<(), Memory>
-        requires { is_made self.old element.name ≡ false }
-        ensures ok { OnOk result (self.new ≡ self.old ++ element ∷ []) }
+    /// Puts an element behind the others, or in the place of one that has its name: tells whether there was one.
+    #[tactic(auto, using(crate::proofs::Found::put, crate::proofs::Found::looked_up))]
+    fn put(&mut self, element: DocElement) -> Result<bool, Memory>
+        ensures taken { IfOk result (λ taken. taken ≡ is_made self.old element.name) }
+        ensures new { IfOk result (λ taken. taken ≡ false → self.new ≡ self.old ++ element ∷ []) }
     {
-        self.kinds.insert(element.name, element.kind)?;
-        Ok(())
+        let old = self.kinds.insert(element.name, element.kind)?;
+        Ok(old.is_some())
     }
 
     /// These elements, where no two have one name.
@@ -65,13 +65,13 @@ impl Standing {
         ensures once { Tells result (AreOnceCalled elements.now) }
     {
         let mut all = Standing {
-            kinds: IndexMap::new(alloc),
+            kinds: IndexMap::with_capacity(alloc, elements.len())?,
         };
         for element in elements {
-            if all.find(&element.name).is_some() {
+            let taken = all.put(*element)?;
+            if taken {
                 return Err(SoundError::Unsound);
             }
-            all.put(*element)?;
         }
         Ok(all)
     }

@@ -84,6 +84,9 @@ fn start_process(state: &State, session: u32) -> Proposal
     alone(Change::StartProcess { session })
 }
 
+// This and reviews stand by themselves: a function clears its locals at entry, and those of what is made a part of it, for which an
+// access would pay.
+#[inline(never)]
 fn administer(state: &State, process: u32, command: &Command) -> Result<Proposal, Memory>
     ensures answer { IfOk result (λ p. answer_by (state_of state.now) p ≡ or_refused (acting state.now.graph process) (λ u. administered (state_of state.now) u process (ruling state.now.graph u (Some process) command.now))) }
     ensures work { (w : Work) → IfOk result (λ p. work_by_proposal w (state_of state.now) p ≡ count_on (acting state.now.graph process) (λ u. count_on (ruling state.now.graph u (Some process) command.now) (λ c. work_entered w (state_of state.now) (raised state.now.graph u process c) c))) }
@@ -127,6 +130,7 @@ fn access(state: &State, process: u32, right: Name, target: Name) -> Proposal
     }
 }
 
+#[inline(never)]
 fn review<R: Threads + Sync>(
     rt: &R,
     state: &State,

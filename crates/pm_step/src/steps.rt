@@ -68,7 +68,9 @@ fn enter_alone(state: &mut State, change: &Change, entry: Entry) -> Result<Reply
     Ok(go_on(state, stepped))
 }
 
-// The answer to a request that comes to this change: in place, where nothing responds and it leaves the kept reviews.
+// The answer to a request that comes to this change: in place, where nothing responds and it leaves the kept reviews. It stands by
+// itself, so that an access doesn't pay for its locals.
+#[inline(never)]
 fn enter_by(
     state: &mut State,
     change: &Change,
@@ -106,7 +108,8 @@ fn enter_access(state: &mut State, event: &Event, entry: Entry) -> Result<Reply,
     Ok(go_on(state, stepped))
 }
 
-// The same, of this request from this seat with this number.
+// The same, of this request from this seat with this number; by itself for the same reason.
+#[inline(never)]
 fn enter_access_of(
     state: &mut State,
     event: &Event,
