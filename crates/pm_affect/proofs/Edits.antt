@@ -1,11 +1,11 @@
 -- Lists changed one after another, each at its place.
-use Rattle.std.proofs.Common.{◌≡◌, ℕ, zero, suc, ◌+◌, ◌≤◌, ◌<◌, ◌==◌, ◌||◌, nat_lt, Bool, true, false, List, [], ◌∷◌, length, map, filter, insert, get_or, set, slice_get, slice_set, Some, None, not, refl, sym, ap, ◌∙◌, subst, arith, eq-eqb, ne_eqb, Result, Ok, Err, OnOk, OnErr}
+use Rattle.std.proofs.Common.{◌≡◌, ℕ, zero, suc, ◌+◌, ◌≤◌, ◌<◌, ◌==◌, ◌||◌, nat_lt, Bool, true, false, List, [], ◌∷◌, length, map, filter, insert, get_or, set, slice_get, slice_set, Some, None, not, refl, sym, ap, ◌∙◌, subst, arith, eq-eqb, ne_eqb, Result, Ok, Err, OnOk, OnErr, if◌then◌else◌}
 use Rattle.std.proofs.lemmas.Bool.{cond_both, eqb-true, eqb-false, ltb-true, ltb-false, or_parts}
 use Rattle.pm_model.specs.Formed.{Each}
 use Rattle.pm_model.specs.declared.reviews.Pair.{Pair}
 use Rattle.pm_laws.proofs.Items.{each-filter}
-use Rattle.pm_affect.specs.Lists.{AreListed, IsInOrder, Listed, Rise, is_among, is_of, listing, pairs_of_some, subjects, with_list, without_list}
-use Rattle.pm_affect.specs.Puts.{edited, place, put_at, with_put}
+use Rattle.pm_affect.specs.Lists.{AreListed, IsInOrder, Listed, Rise, is_among, is_of, listing, pairs_of_some, subjects, was_of_some, with_list, without_list}
+use Rattle.pm_affect.specs.Puts.{edited, place}
 use Rattle.pm_affect.proofs.Places.{rise-apart, rise-lower, rise-at}
 
 -- what was at place n is changed, and put there again
@@ -97,15 +97,19 @@ place-none low s (n ∷ ns) h past = go (λ rest. place-none (n + 1) s ns h.1 re
 
 -- ---- one list is written to
 
-module _ (s n r : ℕ) where
-  pub edited-nowhere : (ks : List Listed) → is_among (subjects ks) s ≡ false → ks ≡ map (put_at s n r) ks
+module _ (s : ℕ) (f : Listed → Listed) where
+  -- the list is changed, where it is of s
+  abbrev pub changed_at : Listed → Listed
+  changed_at k = if k.subject == s then f k else k
+
+  pub edited-nowhere : (ks : List Listed) → is_among (subjects ks) s ≡ false → ks ≡ map changed_at ks
   edited-nowhere [] none = refl
   edited-nowhere (k ∷ ks) none =
       let q = or_parts (k.subject == s) (is_among (subjects ks) s) none in
       rw (q.0, ← edited-nowhere ks q.1) refl
 
   pub edited-there : (low i : ℕ) (ks : List Listed) → Rise low (subjects ks) → slice_get (subjects ks) i ≡ Some s →
-      edited (with_put n r) i ks ≡ map (put_at s n r) ks
+      edited f i ks ≡ map changed_at ks
   edited-there low i [] h is = absurd (cc)
   edited-there low zero (k ∷ ks) h is =
       let same : k.subject ≡ s = cc in
@@ -140,6 +144,13 @@ some-there low zero (l ∷ ks) k h is = let same : l ≡ k = cc in rw (same, eq-
 some-there low (suc i) (l ∷ ks) k h is =
     let above = rise-at (l.subject + 1) i k.subject (subjects ks) h.1 (subject-at ks i k is) in
     rw (ne_eqb l.subject k.subject (λ same. omega (arith, same, above))) (some-there (l.subject + 1) i ks k h.1 is)
+
+pub was-there : (low i : ℕ) (ks : List Listed) (k : Listed) → Rise low (subjects ks) → slice_get ks i ≡ Some k → was_of_some k.subject ks ≡ k.was
+was-there low i [] k h is = absurd (cc)
+was-there low zero (l ∷ ks) k h is = let same : l ≡ k = cc in rw (same, eq-eqb k.subject k.subject refl) refl
+was-there low (suc i) (l ∷ ks) k h is =
+    let above = rise-at (l.subject + 1) i k.subject (subjects ks) h.1 (subject-at ks i k is) in
+    rw (ne_eqb l.subject k.subject (λ same. omega (arith, same, above))) (was-there (l.subject + 1) i ks k h.1 is)
 
 pub none-there : (s : ℕ) (ks : List Listed) → is_among (subjects ks) s ≡ false → None ≡ pairs_of_some s ks
 none-there s [] none = refl

@@ -7,6 +7,7 @@ mod Edits
 pub mod Given
 pub mod Lemma
 mod Members
+mod Merging
 mod Moved
 pub mod Named
 pub mod Once
@@ -19,3 +20,4 @@ pub mod Repaired
 mod Rows
 pub mod Untouched
 mod Walk
+pub mod Were

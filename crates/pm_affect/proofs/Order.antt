@@ -32,7 +32,7 @@ not-below : (low : ℕ) (p : Pair) (ps qs : List Pair) → (p.rights == 0) ≡ f
 not-below low p ps qs some k below same =
     eqb-false p.rights 0 some (sym (first-rights p ps) ∙ same ∙ nothing-below low p.element qs k below)
 
-same-pair : (p q : Pair) → p.element ≡ q.element → p.rights ≡ q.rights → p ≡ q
+pub same-pair : (p q : Pair) → p.element ≡ q.element → p.rights ≡ q.rights → p ≡ q
 same-pair p q e f = rw (e, f) refl
 
 pub same-list : (low : ℕ) (ps qs : List Pair) → IsInOrder low ps → IsInOrder low qs → ((n : ℕ) → rights_at ps n ≡ rights_at qs n) → ps ≡ qs

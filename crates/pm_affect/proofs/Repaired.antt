@@ -53,6 +53,14 @@ module _ (rights : ℕ → ℕ → ℕ) where
   puts-subject [] k = refl
   puts-subject (q ∷ qs) k = puts-subject qs (put_at q.0 q.1 (rights q.0 q.1) k) ∙ at-subject q.0 q.1 (rights q.0 q.1) k
 
+  at-was : (s n r : ℕ) (k : Listed) → (put_at s n r k).was ≡ k.was
+  at-was s n r k = cond_both (k.subject == s) (with_put n r k) k (λ (l : Listed). l.was ≡ k.was) (λ is. refl) (λ is. refl)
+
+  puts-was : (qs : List (ℕ × ℕ)) (k : Listed) → (puts rights qs k).was ≡ k.was
+  unfolding puts
+  puts-was [] k = refl
+  puts-was (q ∷ qs) k = puts-was qs (put_at q.0 q.1 (rights q.0 q.1) k) ∙ at-was q.0 q.1 (rights q.0 q.1) k
+
   at-order : (s n r : ℕ) (k : Listed) → IsInOrder 0 k.pairs → IsInOrder 0 (put_at s n r k).pairs
   at-order s n r k h = cond_both (k.subject == s) (with_put n r k) k (λ (l : Listed). IsInOrder 0 l.pairs)
       (λ is. put-order n r 0 k.pairs (omega arith) h) (λ is. h)
@@ -133,6 +141,14 @@ clear-subject (Under x) k = refl
 clear-subject (Between x y) k = refl
 clear-subject (Barred p) k = refl
 
+clear-was : (region : Region) (k : Listed) → (clear region k).was ≡ k.was
+unfolding clear
+clear-was Nothing k = refl
+clear-was (One x) k = refl
+clear-was (Under x) k = refl
+clear-was (Between x y) k = refl
+clear-was (Barred p) k = refl
+
 clear-order : (region : Region) (k : Listed) → IsInOrder 0 k.pairs → IsInOrder 0 (clear region k).pairs
 unfolding clear
 clear-order Nothing k h = h
@@ -188,8 +204,8 @@ cleared-asked (Barred p) L = refl
 
 -- ---- one side
 
-pub same-listed : (a b : Listed) → a.subject ≡ b.subject → a.pairs ≡ b.pairs → a ≡ b
-same-listed a b e f = rw (e, f) refl
+pub same-listed : (a b : Listed) → a.subject ≡ b.subject → a.was ≡ b.was → a.pairs ≡ b.pairs → a ≡ b
+same-listed a b e w f = rw (e, w, f) refl
 
 -- a list that is right outside, of a subject of which all pairs inside are put
 side-done : (region : Region) (inside : ℕ → Bool) (rights : ℕ → ℕ → ℕ) (ns : List ℕ) (qs : List (ℕ × ℕ)) (k : Listed) → Rise 0 ns →
@@ -232,6 +248,7 @@ module _ (below : ℕ → ℕ → Bool) (region : Region) (rights : ℕ → ℕ 
       puts rights asked (clear region k) ≡ caps_anew rights elements k
   caps-done k there order right =
       same-listed (puts rights asked (clear region k)) (caps_anew rights elements k) (puts-subject rights asked (clear region k) ∙ clear-subject region k)
+      (puts-was rights asked (clear region k) ∙ clear-was region k)
       (side-done region (λ e. is_in below region k.subject e) rights elements asked k rise_elements order right.1 (λ n. one-caps below region k.subject n)
       (λ n. caps-judged k.subject n (any-map (λ m. m == k.subject) (λ (k : Listed). k.subject) L.caps k there (eq-eqb k.subject k.subject refl)) right.0))
 
@@ -240,6 +257,7 @@ module _ (below : ℕ → ℕ → Bool) (region : Region) (rights : ℕ → ℕ 
   entries-done k there order right =
       same-listed (puts (λ e u. rights u e) (turned asked) (clear region k)) (entries_anew rights users k)
       (puts-subject (λ e u. rights u e) (turned asked) (clear region k) ∙ clear-subject region k)
+      (puts-was (λ e u. rights u e) (turned asked) (clear region k) ∙ clear-was region k)
       (side-done region (λ u. is_in below region u k.subject) (λ e u. rights u e) users (turned asked) k rise_users order right.1 (λ n. one-entries below region n k.subject)
       (λ n. entries-judged k.subject n (any-map (λ m. m == k.subject) (λ (k : Listed). k.subject) L.entries k there (eq-eqb k.subject k.subject refl)) right.0))
 

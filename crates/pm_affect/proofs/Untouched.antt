@@ -76,7 +76,7 @@ module _ (below : ℕ → ℕ → Bool) (region : Region) (rights : ℕ → ℕ 
   caps_untouched rise kept h far = all-same (caps_anew rights elements) L.caps (λ k c.
       let right = each-at (AreCapsRight below region rights elements users) L.caps k h.caps c in
       let there : is_among (subjects L.caps) k.subject ≡ true = any-map (λ m. m == k.subject) (λ (k : Listed). k.subject) L.caps k c (eq-eqb k.subject k.subject refl) in
-      same-listed k (caps_anew rights elements k) refl
+      same-listed k (caps_anew rights elements k) refl refl
       (list-right (λ e. is_in below region k.subject e) (is_one region) (λ e. rights k.subject e) elements k right.1 (λ n. one-caps below region k.subject n)
       (λ n. far k.subject n (or_left (is_among (subjects L.caps) k.subject) (is_among (subjects L.entries) n) there)) rise
       (each-at (λ (k : Listed). IsInOrder 0 k.pairs) L.caps k kept.caps.order c))) L.caps (λ k c. c)
@@ -86,7 +86,7 @@ module _ (below : ℕ → ℕ → Bool) (region : Region) (rights : ℕ → ℕ 
   entries_untouched rise kept h far = all-same (entries_anew rights users) L.entries (λ k c.
       let right = each-at (AreEntriesRight below region rights elements users) L.entries k h.entries c in
       let there : is_among (subjects L.entries) k.subject ≡ true = any-map (λ m. m == k.subject) (λ (k : Listed). k.subject) L.entries k c (eq-eqb k.subject k.subject refl) in
-      same-listed k (entries_anew rights users k) refl
+      same-listed k (entries_anew rights users k) refl refl
       (list-right (λ u. is_in below region u k.subject) (is_one region) (λ u. rights u k.subject) users k right.1 (λ n. one-entries below region n k.subject)
       (λ n. far n k.subject (or_right (is_among (subjects L.caps) n) (is_among (subjects L.entries) k.subject) there)) rise
       (each-at (λ (k : Listed). IsInOrder 0 k.pairs) L.entries k kept.entries.order c))) L.entries (λ k c. c)

@@ -1,14 +1,16 @@
 -- Pairs put one piece after another.
-use Rattle.std.proofs.Common.{◌≡◌, ℕ, suc, ◌+◌, List, [], ◌∷◌, ◌++◌, length, map, drop, slice_get, Some, Bool, ◌==◌, ◌&&◌, All, refl, sym, ap, ◌∙◌, subst, arith, length-append, ◌<◌, ◌≤◌, ◌*◌, append-nil}
+use Rattle.std.proofs.Common.{◌≡◌, ℕ, suc, ◌+◌, List, [], ◌∷◌, ◌++◌, length, map, drop, slice_get, Some, Bool, true, false, ◌==◌, ◌&&◌, All, refl, sym, ap, ◌∙◌, subst, arith, length-append, ◌<◌, ◌≤◌, ◌*◌, append-nil}
 use Rattle.std.proofs.lemmas.Bool.{cond_both}
 use Rattle.std.proofs.lemmas.List.{drop_all, length-map}
 use Rattle.std.proofs.lemmas.List.Elements.{filter-append}
 use Rattle.std.proofs.lemmas.Option.{get_or_from_slice_get, slice_get_within}
 use Rattle.pm_laws.proofs.Items.{length-filter}
 use Rattle.pm_model.proofs.Walks.{drop-item}
+use Rattle.pm_model.specs.Reviews.{pair}
+use Rattle.pm_model.specs.declared.reviews.Pair.{Pair}
 use Rattle.pm_affect.specs.Judged.{judged, pairs_of}
 use Rattle.pm_affect.specs.Lists.{Listed, Lists, subjects}
-use Rattle.pm_affect.specs.Puts.{put_at, put_each, with_put, with_rights}
+use Rattle.pm_affect.specs.Puts.{judged_pairs, put_all_at, put_at, put_each, with_put, with_rights, with_row}
 use Rattle.pm_affect.specs.Rows.{with_each}
 
 -- ---- what lists are of stays
@@ -20,8 +22,18 @@ put_at-subjects : (s n r : ℕ) (ks : List Listed) → subjects (map (put_at s n
 put_at-subjects s n r [] = refl
 put_at-subjects s n r (k ∷ ks) = rw (put_at-subject s n r k, put_at-subjects s n r ks) refl
 
-pub rights-caps : (u e r : ℕ) (L : Lists) → subjects (with_rights u e r L).caps ≡ subjects L.caps
-rights-caps u e r L = put_at-subjects u e r L.caps
+-- ---- a row into one list
+
+none_put : (u : ℕ) (ks : List Listed) → ks ≡ map (put_all_at u []) ks
+none_put u [] = refl
+none_put u (k ∷ ks) = rw (← none_put u ks) (ap (λ l. l ∷ ks) (cond_both (k.subject == u) k k (λ (l : Listed). k ≡ l) (λ is. refl) (λ is. refl)))
+
+one_put : (u e r : ℕ) (row : List Pair) (ks : List Listed) → map (put_all_at u row) (map (put_at u e r) ks) ≡ map (put_all_at u (pair e r ∷ row)) ks
+one_put u e r row [] = refl
+one_put u e r row (k ∷ ks) = rw (one_put u e r row ks) (ap (λ l. l ∷ map (put_all_at u (pair e r ∷ row)) ks) (go (k.subject == u) refl)) where
+  go : (b : Bool) → (k.subject == u) ≡ b → put_all_at u row (put_at u e r k) ≡ put_all_at u (pair e r ∷ row) k
+  go true is = rw (is, is) refl
+  go false is = rw (is, is) refl
 
 module _ (rights : ℕ → ℕ → ℕ) where
   pub put-caps : (qs : List (ℕ × ℕ)) (L : Lists) → subjects (put_each rights qs L).caps ≡ subjects L.caps
@@ -40,10 +52,12 @@ module _ (rights : ℕ → ℕ → ℕ) where
   put-more [] qs L = refl
   put-more (p ∷ ps) qs L = put-more ps qs (with_rights p.0 p.1 (rights p.0 p.1) L)
 
-  -- one pair more of a row
-  pub row-more : (u : ℕ) (es : List ℕ) (i e : ℕ) (before now whole : Lists) → slice_get es i ≡ Some e → now ≡ with_rights u e (rights u e) before →
-      put_each rights (with_each u (drop i es)) before ≡ whole → put_each rights (with_each u (drop (i + 1) es)) now ≡ whole
-  row-more u es i e before now whole at put h = rw put (rw (drop-item es i e at) at h)
+  -- the pairs of a row one after another, and as a row
+  pub row_put : (u : ℕ) (es : List ℕ) (L : Lists) → with_row u (judged_pairs (rights u) es) L ≡ put_each rights (with_each u es) L
+  row_put u [] L = ap (λ ks. record L { caps = ks }) (sym (none_put u L.caps))
+  row_put u (e ∷ es) L =
+      let next = with_rights u e (rights u e) L in
+      ap (λ ks. record (with_row u (judged_pairs (rights u) es) next) { caps = ks }) (sym (one_put u e (rights u e) (judged_pairs (rights u) es) L.caps)) ∙ row_put u es next
 
   -- one piece more is put, of what is left
   pub one-more : (piece rest left : List (ℕ × ℕ)) (before now whole : Lists) → left ≡ piece ++ rest →

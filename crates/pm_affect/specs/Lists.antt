@@ -1,6 +1,7 @@
 -- The lists of kept reviews, by what they are of. The project's own.
-use Rattle.std.specs.Prelude.{◌≡◌, ◌≤◌, ◌<◌, ◌^◌, ℕ, ◌+◌, Bool, false, not, ◌==◌, nat_lt, if◌then◌else◌, List, [], ◌∷◌, map, filter, find, Option, option_map}
+use Rattle.std.specs.Prelude.{◌≡◌, ◌≤◌, ◌<◌, ◌^◌, ℕ, ◌+◌, Bool, false, not, ◌==◌, nat_lt, if◌then◌else◌, List, [], ◌∷◌, map, filter, find, Option, None, Some, option_map}
 use Rattle.std.specs.List.{list_any}
+use Rattle.std.specs.Option.{option_and_then}
 use Rattle.pm_model.specs.Formed.{Each}
 use Rattle.pm_model.specs.declared.reviews.Pair.{Pair}
 use Rattle.pm_model.specs.declared.reviews.ReviewOf.{ReviewOf}
@@ -10,6 +11,8 @@ use Rattle.pm_model.specs.declared.reviews.ReviewOf.TheVariants.{Caps, Entries}
 pub record Listed : Type 0 where
   pub subject : ℕ
   pub pairs : List Pair
+  -- what the list was when it was last copied, if there was one then
+  pub was : Option (List Pair)
 
 pub record Lists : Type 0 where
   -- the capabilities, by rising user
@@ -60,6 +63,22 @@ abbrev pub list_in : Lists → ReviewOf ℕ → Option (List Pair)
 list_in L (Caps u) = pairs_of_some u L.caps
 list_in L (Entries e) = pairs_of_some e L.entries
 
+abbrev pub was_of_some : ℕ → List Listed → Option (List Pair)
+was_of_some n ks = option_and_then (λ (k : Listed). k.was) (find (is_of n) ks)
+
+-- what it was when it was last copied, if there was one then
+abbrev pub was_in : Lists → ReviewOf ℕ → Option (List Pair)
+was_in L (Caps u) = was_of_some u L.caps
+was_in L (Entries e) = was_of_some e L.entries
+
+-- ---- lists are copied
+
+abbrev pub copied : Listed → Listed
+copied k = record k { was = Some k.pairs }
+
+abbrev pub all_copied : Lists → Lists
+all_copied L = record L { caps = map copied L.caps; entries = map copied L.entries }
+
 -- ---- lists come and go
 
 -- with this list behind those of lower subjects
@@ -68,7 +87,7 @@ with_list x [] = x ∷ []
 with_list x (k ∷ ks) = if nat_lt k.subject x.subject then k ∷ with_list x ks else x ∷ k ∷ ks
 
 abbrev pub listing : ℕ → List Pair → Listed
-listing n ps = record { subject = n; pairs = ps }
+listing n ps = record { subject = n; pairs = ps; was = None }
 
 abbrev pub inserted : ReviewOf ℕ → List Pair → Lists → Lists
 inserted (Caps u) ps L = record L { caps = with_list (listing u ps) L.caps }

@@ -1,9 +1,10 @@
 -- What the lists of kept reviews have to be, before a change is made up for and after. The project's own.
-use Rattle.std.specs.Prelude.{◌≡◌, ℕ, Bool, true, false, ◌==◌, if◌then◌else◌, List, [], ◌∷◌}
+use Rattle.std.specs.Prelude.{◌≡◌, ℕ, Bool, true, false, ◌==◌, if◌then◌else◌, List, [], ◌∷◌, IfSome}
 use Rattle.pm_model.specs.Formed.{Each, IsLive, IsUser}
-use Rattle.pm_model.specs.Reviews.{capabilities, entries, numbers_in, rights_in, users_in}
+use Rattle.pm_model.specs.Reviews.{capabilities, entries, list_of, numbers_in, rights_in, users_in}
 use Rattle.pm_model.specs.State.{Graph}
 use Rattle.pm_model.specs.declared.reviews.Pair.{Pair}
+use Rattle.pm_model.specs.declared.reviews.ReviewOf.TheVariants.{Caps, Entries}
 use Rattle.pm_affect.specs.Affected.{is_in}
 use Rattle.pm_affect.specs.Lists.{Listed, Lists, is_among}
 use Rattle.pm_affect.specs.declared.region.Region.{Region}
@@ -32,6 +33,11 @@ pub record AreAmong (elements users : List ℕ) (L : Lists) : Type 0 where
 -- all lists are those of the graph
 abbrev pub AreLists : Graph → Lists → Type 0
 AreLists G L = AreGiven (rights_in G) (numbers_in G.elements) (users_in G.elements) L
+
+-- all that were there when they were last copied were those of the graph
+pub record WereLists (G : Graph) (L : Lists) : Type 0 where
+  pub caps : Each (λ (k : Listed). IfSome k.was (λ (ps : List Pair). ps ≡ list_of G (Caps k.subject))) L.caps
+  pub entries : Each (λ (k : Listed). IfSome k.was (λ (ps : List Pair). ps ≡ list_of G (Entries k.subject))) L.entries
 
 -- what they are of is live, and what capabilities are of are users
 pub record AreLive (G : Graph) (L : Lists) : Type 0 where

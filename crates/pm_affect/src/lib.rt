@@ -4,6 +4,7 @@
 mod items;
 mod laws;
 mod lists;
+mod merge;
 mod pairs;
 mod region;
 mod repair;

@@ -1,17 +1,18 @@
 //! The lists of all kept reviews.
 
-ghost use Rattle.std.specs.Prelude.{◌≡◌, ◌+◌, ◌-◌, ◌^◌, ◌≤◌, ◌==◌, ◌&&◌, [], None, length, min, IfOk, OnOk, OnErr};
+ghost use Rattle.std.specs.Prelude.{◌≡◌, ◌+◌, ◌-◌, ◌^◌, ◌≤◌, ◌==◌, ◌&&◌, [], false, None, length, min, IfOk, OnOk, OnErr};
 ghost use Rattle.std.specs.Option.{option_copied};
-ghost use Rattle.pm_affect.specs.Lists.{AreKept, IsInOrder, Lists, inserted, is_among, list_in, removed, subjects};
-ghost use Rattle.pm_affect.specs.Puts.{cleared, place, with_rights};
+ghost use Rattle.pm_affect.specs.Lists.{AreKept, IsInOrder, Lists, all_copied, inserted, is_among, list_in, removed, subjects, was_in};
+ghost use Rattle.pm_affect.specs.Puts.{cleared, place, with_row};
 ghost use Rattle.pm_affect.specs.declared.region.Region.{Region};
 
 use crate::items::Item;
 use crate::region::Region;
 use crate::sides::{
-    all_subjects, copy_all, has_at, insert, list, next_place, place, put_at, remove, take_out,
+    all_subjects, copy_all, has_at, insert, is_written, list, next_place, put_across, put_all_at,
+    remove, take_out,
 };
-use pm_model::{ElementId, Memory, PairList, PlaceList, ReviewOf, Rights};
+use pm_model::{ElementId, Memory, PairList, PlaceList, ReviewOf};
 use std::alloc::Global;
 use std::marker::Model;
 
@@ -19,7 +20,8 @@ use std::marker::Model;
 /// it is of, and has one list at most. Contracts see the lists by rising subject; each is by rising number, and no set of
 /// rights in it is empty.
 ///
-/// Copies share each list until one of them changes it, so that a copy costs a pointer for each list, however long it is.
+/// Copies share each list until one of them changes it, so that a copy costs two pointers for each list, however long it is: one
+/// to the list, and one to what it was when it was copied. Of a list that the copy writes to, both stay in memory as long as the copy.
 pub struct KeptLists {
     caps: Vec<Item>,
     entries: Vec<Item>,
@@ -68,6 +70,17 @@ impl KeptLists {
         }
     }
 
+    /// Whether the list of a review may differ from what it was when it was last copied, or there is none, now or then. No pair of a
+    /// list is looked at.
+    pub fn is_written(&self, of: &ReviewOf<ElementId>) -> bool
+        ensures { result ≡ false → was_in self.now of.now ≡ list_in self.now of.now }
+    {
+        match of {
+            ReviewOf::Caps(user) => is_written(&self.caps, *user),
+            ReviewOf::Entries(element) => is_written(&self.entries, *element),
+        }
+    }
+
     /// Keeps the list of a review that has none yet. On Memory all is as before, and the list is dropped.
     pub fn insert(&mut self, of: ReviewOf<ElementId>, list: PairList) -> Result<(), Memory>
         requires none { list_in self.old of ≡ None }
@@ -91,9 +104,9 @@ impl KeptLists {
         }
     }
 
-    /// The same lists once more, each of which costs a pointer.
+    /// The same lists once more, each of which costs two pointers.
     pub fn copy(&self) -> Result<KeptLists, Memory>
-        ensures { IfOk result (λ same. same ≡ self.now) }
+        ensures { IfOk result (λ copy. copy ≡ all_copied self.now) }
     {
         let caps = copy_all(&self.caps)?;
         let entries = copy_all(&self.entries)?;
@@ -170,21 +183,19 @@ impl KeptLists {
         all_subjects(&self.entries)
     }
 
-    /// Puts the rights of a user on an element into each list that has the pair in its scope; the place is the user's among
-    /// the capabilities.
-    pub(crate) fn put(
+    /// Puts the rights of a user on each element of a row into each list that has the pair in its scope; the place is the
+    /// user's among the capabilities.
+    pub(crate) fn put_row(
         &mut self,
         i: usize,
         user: ElementId,
-        element: ElementId,
-        rights: Rights,
+        row: &PairList,
     ) -> Result<(), Memory>
         requires { i ≡ place user (subjects self.old.caps) }
-        ensures { OnOk result (self.new ≡ with_rights user element rights self.old) }
+        ensures { OnOk result (self.new ≡ with_row user row.now self.old) }
     {
-        put_at(&mut self.caps, i, user, element, rights)?;
-        let j = place(&self.entries, element);
-        put_at(&mut self.entries, j, element, user, rights)
+        put_all_at(&mut self.caps, i, user, row)?;
+        put_across(&mut self.entries, user, row)
     }
 
     /// Takes the element that was made or is gone out of each list.

@@ -1,13 +1,17 @@
 //! The list of a kept review, which copies share until one changes it.
 
-ghost use Rattle.std.specs.Prelude.{◌≡◌, ◌≤◌, length, OnOk, IfOk};
-ghost use Rattle.pm_affect.specs.Lists.{IsInOrder};
-ghost use Rattle.pm_affect.specs.Puts.{elements_of, place, put, without_at};
+ghost use Rattle.std.specs.Prelude.{◌≡◌, ◌≤◌, false, nat_lt, filter, length, OnOk, IfOk};
+ghost use Rattle.pm_affect.specs.Lists.{IsInOrder, Rise};
+ghost use Rattle.pm_affect.specs.Puts.{elements_of, few, is_change, is_worth, place, put, put_all, without_at};
 ghost use Rattle.pm_affect.specs.Right.{rights_at};
 
+use crate::merge::{merged, rises};
 use pm_model::{ElementId, Memory, Pair, PairList, Rights};
 use std::marker::Model;
 use std::sync::Arc;
+
+/// So many pairs are always put one by one, though each may move all of a list.
+const FEW: usize = 8;
 
 /// A list of pairs. Contracts see the list alone, and not whether other lists share it.
 pub(crate) struct Pairs {
@@ -86,6 +90,42 @@ fn write(pairs: &mut PairList, i: usize, element: ElementId, rights: Rights) -> 
     Ok(())
 }
 
+/// The rights that the list has at the element.
+fn rights_of(pairs: &PairList, element: ElementId) -> Rights
+    requires { IsInOrder 0 pairs.now }
+    ensures { result ≡ rights_at pairs.now element }
+{
+    rights_at(pairs, place_of(pairs, element), element)
+}
+
+/// Whether more than a few pairs of the row change the list.
+fn changes_more(pairs: &PairList, row: &PairList) -> bool
+    requires { IsInOrder 0 pairs.now }
+    ensures { result ≡ nat_lt few (length (filter (is_change pairs.now) row.now)) }
+{
+    let mut changes = 0;
+    for n in 0..row.len() {
+        let pair = row.at(n);
+        if rights_of(pairs, pair.element) != pair.rights {
+            changes += 1;
+            if changes > FEW {
+                return true;
+            }
+        }
+    }
+    false
+}
+
+/// Whether it pays to write the whole list again in one walk. A pair that is put by itself costs a search by halving, and where
+/// it changes the list all that is behind it is moved: that is less for a short row, and for one that is much shorter than the
+/// list and changes little of it.
+fn is_worth(pairs: &PairList, row: &PairList) -> bool
+    requires { IsInOrder 0 pairs.now }
+    ensures { result ≡ is_worth pairs.now row.now }
+{
+    row.len() > FEW && (row.len() > pairs.len() / 8 || changes_more(pairs, row))
+}
+
 impl Pairs {
     /// On Memory the list is dropped.
     pub(crate) fn new(list: PairList) -> Result<Pairs, Memory>
@@ -128,18 +168,64 @@ impl Pairs {
         Ok(())
     }
 
-    /// Puts the rights of an element at its place by number, or takes it out where they are empty. Where the list has them
-    /// already it takes no memory; else a list that is shared is copied first.
-    pub(crate) fn put(&mut self, element: ElementId, rights: Rights) -> Result<(), Memory>
+    /// Puts the rights of an element at its place by number, or takes it out where they are empty; tells whether that changes the
+    /// list. Where it has them already it takes no memory; else a list that is shared is copied first.
+    pub(crate) fn put(&mut self, element: ElementId, rights: Rights) -> Result<bool, Memory>
         requires { IsInOrder 0 self.old }
         ensures ok { OnOk result (self.new ≡ put element rights self.old) }
+        ensures same { IfOk result (λ changed. changed ≡ false → self.new ≡ self.old) }
         ensures order { IsInOrder 0 self.new }
     {
         let list = self.list();
         let i = place_of(list, element);
         if rights_at(list, i, element) == rights {
-            return Ok(());
+            return Ok(false);
         }
-        self.write(i, element, rights)
+        self.write(i, element, rights)?;
+        Ok(true)
+    }
+
+    /// Puts each pair of a row, one after another.
+    fn put_each(&mut self, row: &PairList) -> Result<bool, Memory>
+        requires { IsInOrder 0 self.old }
+        ensures ok { OnOk result (self.new ≡ put_all row.now self.old) }
+        ensures same { IfOk result (λ changed. changed ≡ false → self.new ≡ self.old) }
+        ensures order { IsInOrder 0 self.new }
+    {
+        let mut changed = false;
+        for n in 0..row.len() {
+            let pair = row.at(n);
+            changed |= self.put(pair.element, pair.rights)?;
+        }
+        Ok(changed)
+    }
+
+    /// Puts them in one walk, into a new list. Where that is the same, the old one stays, which others may share.
+    fn merge(&mut self, row: &PairList) -> Result<bool, Memory>
+        requires order { IsInOrder 0 self.old }
+        requires rise { Rise 0 (elements_of row.now) }
+        ensures ok { OnOk result (self.new ≡ put_all row.now self.old) }
+        ensures same { IfOk result (λ changed. changed ≡ false → self.new ≡ self.old) }
+        ensures order { IsInOrder 0 self.new }
+    {
+        let list = merged(self.list(), row)?;
+        if list.as_slice() == self.list().as_slice() {
+            return Ok(false);
+        }
+        *self = Pairs::new(list)?;
+        Ok(true)
+    }
+
+    /// Puts each pair of a row, in any order: as [`Pairs::put`] does, or all in one walk. Tells whether that changes the list.
+    pub(crate) fn put_all(&mut self, row: &PairList) -> Result<bool, Memory>
+        requires { IsInOrder 0 self.old }
+        ensures ok { OnOk result (self.new ≡ put_all row.now self.old) }
+        ensures same { IfOk result (λ changed. changed ≡ false → self.new ≡ self.old) }
+        ensures order { IsInOrder 0 self.new }
+    {
+        if is_worth(self.list(), row) && rises(row) {
+            return self.merge(row);
+        }
+        self.put_each(row)
     }
 }

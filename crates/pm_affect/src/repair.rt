@@ -7,14 +7,14 @@ ghost use Rattle.pm_affect.specs.Affected.{is_in};
 ghost use Rattle.pm_affect.specs.Judged.{in_scope, judged};
 ghost use Rattle.pm_affect.specs.Lists.{Rise, is_among, subjects};
 ghost use Rattle.pm_affect.specs.Live.{AreAsked, AreJudged, IsJudged, RegionLive};
-ghost use Rattle.pm_affect.specs.Puts.{place, put_each};
+ghost use Rattle.pm_affect.specs.Puts.{judged_pairs, place, put_each};
 ghost use Rattle.pm_affect.specs.Right.{AreRight, caps_anew, entries_anew};
 ghost use Rattle.pm_affect.specs.Rows.{ArePassed, has_near, has_row, is_near, row, with_each};
 
 use crate::lists::KeptLists;
 use crate::region::{Region, Row};
 use crate::touching::{Asked, Side, some_near};
-use pm_model::{ElementId, Judge, Memory, PlaceList, Reach, UserList};
+use pm_model::{ElementId, Judge, Memory, Pair, PairList, PlaceList, Reach, UserList};
 
 /// Some elements, and those of them that are near a region.
 #[derive(Clone, Copy)]
@@ -60,6 +60,28 @@ fn near_for<R: Reach>(
     Ok(PlaceList::new(elements.allocator()))
 }
 
+/// The rights that the user has on each of the elements.
+fn judged_row<J: Judge>(
+    user: ElementId,
+    elements: &PlaceList,
+    judge: &mut J,
+) -> Result<PairList, Memory>
+    requires user { IsJudged (J.judgement judge.old) user }
+    requires elements { AreJudged (J.judgement judge.old) elements.now }
+    requires room { J.asked judge.old + length elements.now < 2 ^ 64 }
+    ensures row { IfOk result (λ row. row ≡ judged_pairs ((J.judgement judge.old).rights user) elements.now) }
+    ensures asked { OnOk result (J.asked judge.new ≡ J.asked judge.old + length elements.now) }
+    ensures same { J.judgement judge.new ≡ J.judgement judge.old }
+{
+    let mut row = PairList::with_room(elements.allocator(), elements.len())?;
+    for n in 0..elements.len() {
+        let element = *elements.at(n);
+        let rights = judge.judge(user, element);
+        row.push(Pair { element, rights })?;
+    }
+    Ok(row)
+}
+
 /// Judges the user's rights on each of the elements, and puts them into the lists; tells how many there were. The place is the
 /// user's among the capabilities.
 fn judge_row<J: Judge>(
@@ -78,11 +100,8 @@ fn judge_row<J: Judge>(
     ensures asked { OnOk result (J.asked judge.new ≡ J.asked judge.old + length elements.now) }
     ensures same { J.judgement judge.new ≡ J.judgement judge.old }
 {
-    for n in 0..elements.len() {
-        let element = *elements.at(n);
-        let rights = judge.judge(user, element);
-        lists.put(i, user, element, rights)?;
-    }
+    let row = judged_row(user, elements, judge)?;
+    lists.put_row(i, user, &row)?;
     Ok(elements.len() as u64)
 }
 
@@ -241,11 +260,12 @@ fn judge_users<J: Judge, R: Reach>(
 /// lists are right already. On Memory the lists are dropped, since they may be partly repaired.
 ///
 /// It asks the judge once for each pair that lies in the region and in the scope of a kept review, and charges the lists for
-/// these; a list is written to, and copied if it is shared, where rights in it change. Where the region has no pair, or no
-/// review is kept, it returns at once. Else it asks the region once for each subject of a kept review, for each user where an
-/// element whose entries are kept may be in it, and for each element where a user whose capabilities are kept has only some in
-/// it; where none of 64 numbers may be in it, once for these. A question to the region is one of containment, or as many as the
-/// sets of a prohibition have elements.
+/// these. The rights of one user are judged into a list first, which is put into the user's: one by one, or where they are many
+/// in one walk along both, into a new list. A list is written to, and copied if it is shared, where rights in it change. Where
+/// the region has no pair, or no review is kept, it returns at once. Else it asks the region once for each subject of a kept
+/// review, for each user where an element whose entries are kept may be in it, and for each element where a user whose
+/// capabilities are kept has only some in it; where none of 64 numbers may be in it, once for these. A question to the region
+/// is one of containment, or as many as the sets of a prohibition have elements.
 pub fn update<J: Judge, R: Reach>(
     mut lists: KeptLists,
     region: &Region,

@@ -1,9 +1,9 @@
 //! The lists of one kind of review, by what they are of.
 
-ghost use Rattle.std.specs.Prelude.{◌≡◌, ◌<◌, ◌≤◌, ◌==◌, ◌+◌, IfOk, OnOk, OnErr, None, insert, length, map};
+ghost use Rattle.std.specs.Prelude.{◌≡◌, ◌<◌, ◌≤◌, ◌==◌, ◌+◌, false, IfOk, OnOk, OnErr, None, insert, length, map};
 ghost use Rattle.std.specs.Option.{option_copied};
-ghost use Rattle.pm_affect.specs.Lists.{AreListed, IsInOrder, is_among, listing, pairs_of_some, subjects, with_list, without_list};
-ghost use Rattle.pm_affect.specs.Puts.{edited, place, put_at, with_put};
+ghost use Rattle.pm_affect.specs.Lists.{AreListed, IsInOrder, copied, is_among, listing, pairs_of_some, subjects, was_of_some, with_list, without_list};
+ghost use Rattle.pm_affect.specs.Puts.{edited, place, put_across, put_all_at, put_at, with_all, with_put};
 
 use crate::items::Item;
 use pm_model::{ElementId, Memory, PairList, PlaceList, Rights};
@@ -61,6 +61,18 @@ pub(crate) fn list(items: &[Item], subject: ElementId) -> Option<&PairList>
     None
 }
 
+/// Whether the list of a number may differ from what it was when it was last copied, or there is none.
+pub(crate) fn is_written(items: &[Item], subject: ElementId) -> bool
+    requires { AreListed items.now }
+    ensures { result ≡ false → was_of_some subject items.now ≡ pairs_of_some subject items.now }
+{
+    let i = place(items, subject);
+    if has_at(items, i, subject) {
+        return items[i].is_written();
+    }
+    true
+}
+
 /// Puts the rights of an element into the list at a place.
 pub(crate) fn put_in(
     items: &mut Vec<Item>,
@@ -79,7 +91,7 @@ pub(crate) fn put_in(
 }
 
 /// Puts the rights of an element into the list of a number, whose place this is, if there is one.
-pub(crate) fn put_at(
+fn put_at(
     items: &mut Vec<Item>,
     i: usize,
     subject: ElementId,
@@ -94,6 +106,55 @@ pub(crate) fn put_at(
 {
     if has_at(items, i, subject) {
         return put_in(items, i, element, rights);
+    }
+    Ok(())
+}
+
+/// Puts each pair of a row into the list at a place.
+fn put_all_in(items: &mut Vec<Item>, i: usize, row: &PairList) -> Result<(), Memory>
+    requires listed { AreListed items.old.items }
+    requires place { i < length items.old.items }
+    ensures ok { OnOk result (items.new.items ≡ edited (with_all row.now) i items.old.items) }
+    ensures listed { AreListed items.new.items }
+    ensures subjects { subjects items.new.items ≡ subjects items.old.items }
+{
+    let item = &mut items[i];
+    item.put_all(row)
+}
+
+/// Puts each pair of a row into the list of a number, whose place this is, if there is one.
+pub(crate) fn put_all_at(
+    items: &mut Vec<Item>,
+    i: usize,
+    subject: ElementId,
+    row: &PairList,
+) -> Result<(), Memory>
+    requires listed { AreListed items.old.items }
+    requires place { i ≡ place subject (subjects items.old.items) }
+    ensures ok { OnOk result (items.new.items ≡ map (put_all_at subject row.now) items.old.items) }
+    ensures listed { AreListed items.new.items }
+    ensures subjects { subjects items.new.items ≡ subjects items.old.items }
+{
+    if has_at(items, i, subject) {
+        return put_all_in(items, i, row);
+    }
+    Ok(())
+}
+
+/// Puts the rights that a user has on each element of a row into the list of that element, if there is one.
+pub(crate) fn put_across(
+    items: &mut Vec<Item>,
+    user: ElementId,
+    row: &PairList,
+) -> Result<(), Memory>
+    requires { AreListed items.old.items }
+    ensures ok { OnOk result (items.new.items ≡ put_across user row.now items.old.items) }
+    ensures listed { AreListed items.new.items }
+{
+    for n in 0..row.len() {
+        let pair = *row.at(n);
+        let i = place(items, pair.element);
+        put_at(items, i, pair.element, user, pair.rights)?;
     }
     Ok(())
 }
@@ -160,14 +221,14 @@ pub(crate) fn all_subjects(items: &Vec<Item>) -> Result<PlaceList, Memory>
     Ok(all)
 }
 
-/// The same lists once more, each of which costs a pointer.
+/// The same lists once more, each of which costs two pointers.
 pub(crate) fn copy_all(items: &Vec<Item>) -> Result<Vec<Item>, Memory>
-    ensures { IfOk result (λ same. same.items ≡ items.now.items) }
+    ensures { IfOk result (λ copies. copies.items ≡ map copied items.now.items) }
 {
-    let mut same = Vec::with_capacity(*items.allocator(), items.len())?;
+    let mut copies = Vec::with_capacity(*items.allocator(), items.len())?;
     for item in items {
-        let again = item.copy()?;
-        same.push(again)?;
+        let copy = item.copy()?;
+        copies.push(copy)?;
     }
-    Ok(same)
+    Ok(copies)
 }

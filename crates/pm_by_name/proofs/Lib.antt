@@ -1,3 +1,4 @@
 pub mod ByName
 pub mod Keyed
 pub mod Ordered
+pub mod Places

@@ -1,9 +1,10 @@
 -- Entries of keys and values, by their keys; what has names, by these as keys. The project's own.
-use Rattle.std.specs.Prelude.{ℕ, ◌+◌, Bool, List, [], ◌∷◌, get_or}
+use Rattle.std.specs.Prelude.{◌≡◌, ℕ, ◌+◌, Bool, List, [], ◌∷◌, map, get_or}
 use Rattle.std.specs.Cmp.Lexicographic.{slice_cmp}
 use Rattle.std.specs.Ordering.{is_eq, is_lt, nat_cmp, ordering_then}
 use Rattle.std.specs.declared.cmp.Ordering.{Ordering}
 use Rattle.pm_by_name.specs.declared.by_name.ByBytes.{ByBytes}
+use Rattle.pm_policy.specs.Order.{sorted}
 use Rattle.pm_policy.specs.declared.policy.DocElement.{DocElement}
 use Rattle.pm_policy.specs.declared.policy.DocAssignment.{DocAssignment}
 use Rattle.pm_policy.specs.declared.policy.DocAssociation.{DocAssociation}
@@ -18,6 +19,25 @@ goes_first cmp x y = is_lt (cmp x.0 y.0)
 abbrev pub has_key_of : {K V : Type 0} → (K → K → Ordering) → K × V → K × V → Bool
 has_key_of cmp x y = is_eq (cmp x.0 y.0)
 
+-- ---- places
+
+-- the keys of the items are equal
+abbrev pub have_one_key : {X K : Type 0} → (K → K → Ordering) → (X → K) → X → X → Bool
+have_one_key cmp key x y = is_eq (cmp (key x) (key y))
+
+-- the keys of the items with their places, from n on
+abbrev pub places_from : {X K : Type 0} → (X → K) → ℕ → List X → List (K × ℕ)
+places_from key n [] = []
+places_from key n (x ∷ xs) = (key x, n) ∷ places_from key (n + 1) xs
+
+-- the places of the items, by their keys
+abbrev pub places_by : {X K : Type 0} → (K → K → Ordering) → (X → K) → List X → List ℕ
+places_by {X = X} {K = K} cmp key xs = map (λ (e : K × ℕ). e.1) (sorted (goes_first cmp) (places_from key 0 xs))
+
+-- the second list has the items of the first at these places
+abbrev pub AreAt : {X : Type 0} → List X → List ℕ → List X → Type 0
+AreAt {X = X} all places xs = (d : X) → xs ≡ map (λ k. get_or all k d) places
+
 -- ---- names as keys
 
 abbrev pub by_bytes : List ℕ → ByBytes
@@ -30,19 +50,14 @@ cmp_bytes a b = slice_cmp nat_cmp a.name b.name
 abbrev pub cmp_both : ByBytes × ByBytes → ByBytes × ByBytes → Ordering
 cmp_both a b = ordering_then (cmp_bytes a.0 b.0) (cmp_bytes a.1 b.1)
 
-abbrev pub element_entry : DocElement → ByBytes × DocElement
-element_entry e = (by_bytes e.name, e)
+abbrev pub element_key : DocElement → ByBytes
+element_key e = by_bytes e.name
 
-abbrev pub assignment_entry : DocAssignment → (ByBytes × ByBytes) × DocAssignment
-assignment_entry p = ((by_bytes p.from, by_bytes p.to), p)
+abbrev pub assignment_key : DocAssignment → ByBytes × ByBytes
+assignment_key p = (by_bytes p.from, by_bytes p.to)
 
 abbrev pub ends_key : DocAssociation → ByBytes × ByBytes
 ends_key a = (by_bytes a.ua, by_bytes a.at)
-
--- their places from n on, by their ends
-abbrev pub association_entries : ℕ → List DocAssociation → List ((ByBytes × ByBytes) × ℕ)
-association_entries n [] = []
-association_entries n (a ∷ as_) = (ends_key a, n) ∷ association_entries (n + 1) as_
 
 -- the association at a place that there is
 abbrev pub association_in : List DocAssociation → ℕ → DocAssociation

@@ -1,8 +1,9 @@
 //! What has names, by the bytes of these.
 
-ghost use Rattle.std.specs.Prelude.{◌≡◌, ℕ, ◌<◌, Bool, true, length, map, Contains, IfOk};
+ghost use Rattle.std.specs.Prelude.{◌≡◌, ◌↔◌, ℕ, ◌<◌, Bool, true, length, map, Contains, IfOk};
 ghost use Rattle.std.specs.BTreeMap.{values};
-ghost use Rattle.pm_by_name.specs.Keyed.{association_entries, association_in, assignment_entry, cmp_both, cmp_bytes, element_entry, ends_key, goes_first, has_key_of};
+ghost use Rattle.pm_by_name.specs.Keyed.{AreAt, association_in, assignment_key, element_key, ends_key, goes_first, has_key_of, have_one_key, places_by, places_from};
+ghost use Rattle.pm_by_name.specs.Rising.{AreRising};
 ghost use Rattle.pm_policy.specs.Order.{is_below, leads_before, sorted, stands_before};
 ghost use Rattle.pm_policy.specs.Requests.{joins_before};
 ghost use Rattle.pm_policy.specs.Sound.{AreOnce, AreOnceAssigned, AreOnceCalled, has_ends};
@@ -65,24 +66,43 @@ fn is_below(a: &Name, b: &Name) -> bool
 }
 
 /// An item of a list that stands by names.
-trait ByName: Copy + Drop {
+trait ByName {
+    type Key: Ord + Copy + Drop;
+
     /// Whether the first stands before the second.
     ghost before: { Self → Self → Bool };
 
+    ghost key: { Self → Self.Key };
+
     fn is_before(&self, other: &Self) -> bool
         ensures { result ≡ before self.now other.now };
+
+    fn key(&self) -> Self::Key
+        ensures { result ≡ key self.now };
 }
 
 impl ByName for DocElement {
+    type Key = ByBytes;
+
     ghost before = { stands_before };
+
+    ghost key = { element_key };
 
     fn is_before(&self, other: &DocElement) -> bool {
         is_below(&self.name, &other.name)
     }
+
+    fn key(&self) -> ByBytes {
+        ByBytes { name: self.name }
+    }
 }
 
 impl ByName for DocAssignment {
+    type Key = (ByBytes, ByBytes);
+
     ghost before = { leads_before };
+
+    ghost key = { assignment_key };
 
     fn is_before(&self, other: &DocAssignment) -> bool {
         match self.from.bytes().cmp(other.from.bytes()) {
@@ -91,11 +111,35 @@ impl ByName for DocAssignment {
             Ordering::Greater => false,
         }
     }
+
+    fn key(&self) -> (ByBytes, ByBytes) {
+        (ByBytes { name: self.from }, ByBytes { name: self.to })
+    }
+}
+
+impl ByName for DocAssociation {
+    type Key = (ByBytes, ByBytes);
+
+    ghost before = { joins_before };
+
+    ghost key = { ends_key };
+
+    fn is_before(&self, other: &DocAssociation) -> bool {
+        match self.ua.bytes().cmp(other.ua.bytes()) {
+            Ordering::Less => true,
+            Ordering::Equal => is_below(&self.at, &other.at),
+            Ordering::Greater => false,
+        }
+    }
+
+    fn key(&self) -> (ByBytes, ByBytes) {
+        (ByBytes { name: self.ua }, ByBytes { name: self.at })
+    }
 }
 
 /// Whether each item stands before the next: what is exported stands so.
 fn are_in_order<T: ByName>(items: &[T]) -> bool
-    ensures { result ≡ true → sorted T.before items.now ≡ items.now }
+    ensures { (result ≡ true) ↔ AreRising T.before items.now }
 {
     for k in 1..items.len() {
         if !items[k - 1].is_before(&items[k]) {
@@ -103,6 +147,20 @@ fn are_in_order<T: ByName>(items: &[T]) -> bool
         }
     }
     true
+}
+
+/// Whether each assignment stands before the next, by the first and then the second names: then none stands twice.
+pub fn are_assignments_in_order(pairs: &[DocAssignment]) -> bool
+    ensures { (result ≡ true) ↔ AreRising leads_before pairs.now }
+{
+    are_in_order(pairs)
+}
+
+/// Whether each association stands before the next, by `ua` and then `at`: then none joins the ends of another.
+pub fn are_associations_in_order(associations: &[DocAssociation]) -> bool
+    ensures { (result ≡ true) ↔ AreRising joins_before associations.now }
+{
+    are_in_order(associations)
 }
 
 fn keyed<K: Ord + Copy + Drop, V: Copy + Drop>(
@@ -140,14 +198,38 @@ pub fn values_by_key<K: Ord + Copy + Drop, V: Copy + Drop>(
     Ok(values(alloc, map)?)
 }
 
-fn element_entries(
-    alloc: Global,
-    elements: &[DocElement],
-) -> Result<Vec<(ByBytes, DocElement)>, Memory>
-    ensures { IfOk result (λ v. v.items ≡ map element_entry elements.now) }
+/// The places of items with different keys, under these.
+fn keyed_places<T: ByName>(alloc: Global, items: &[T]) -> Result<BTreeMap<T::Key, usize>, Memory>
+    requires { AreOnce (have_one_key T.Key.cmp T.key) items.now }
+    ensures { IfOk result (λ m. m.entries ≡ sorted (goes_first T.Key.cmp) (places_from T.key 0 items.now)) }
 {
-    let entry = |element: &DocElement| (ByBytes { name: element.name }, *element);
-    Ok(elements.iter().map(entry).collect(alloc)?)
+    let mut map = BTreeMap::new(alloc);
+    let count = items.len();
+    for k in 0..count {
+        let place = count - 1 - k;
+        map.insert(items[place].key(), place)?;
+    }
+    Ok(map)
+}
+
+/// The places of items with different keys, by these: no item is moved.
+fn places_by_name<T: ByName>(alloc: Global, items: &[T]) -> Result<Vec<usize>, Memory>
+    requires { AreOnce (have_one_key T.Key.cmp T.key) items.now }
+    ensures { IfOk result (λ v. v.items ≡ places_by T.Key.cmp T.key items.now) }
+{
+    let map = keyed_places(alloc, items)?;
+    Ok(values(alloc, map)?)
+}
+
+fn items_at<T: Copy + Drop>(alloc: Global, items: &[T], places: &[usize]) -> Result<Vec<T>, Memory>
+    requires { (k : ℕ) → Contains places.now k → k < length items.now }
+    ensures { IfOk result (λ v. AreAt items.now places.now v.items) }
+{
+    let mut list = Vec::with_capacity(alloc, places.len())?;
+    for place in places {
+        list.push(items[*place])?;
+    }
+    Ok(list)
 }
 
 /// The elements by name.
@@ -158,21 +240,8 @@ pub fn elements_by_name(alloc: Global, elements: &[DocElement]) -> Result<Vec<Do
     if are_in_order(elements) {
         return Ok(Vec::from_slice(alloc, elements)?);
     }
-    let entries = element_entries(alloc, elements)?;
-    values_by_key(alloc, entries.as_slice())
-}
-
-fn assignment_entries(
-    alloc: Global,
-    pairs: &[DocAssignment],
-) -> Result<Vec<((ByBytes, ByBytes), DocAssignment)>, Memory>
-    ensures { IfOk result (λ v. v.items ≡ map assignment_entry pairs.now) }
-{
-    let entry = |pair: &DocAssignment| (
-        (ByBytes { name: pair.from }, ByBytes { name: pair.to }),
-        *pair,
-    );
-    Ok(pairs.iter().map(entry).collect(alloc)?)
+    let places = places_by_name(alloc, elements)?;
+    items_at(alloc, elements, places.as_slice())
 }
 
 /// The assignments by their first and then their second names.
@@ -186,27 +255,8 @@ pub fn assignments_by_name(
     if are_in_order(pairs) {
         return Ok(Vec::from_slice(alloc, pairs)?);
     }
-    let entries = assignment_entries(alloc, pairs)?;
-    values_by_key(alloc, entries.as_slice())
-}
-
-fn association_entries(
-    alloc: Global,
-    associations: &[DocAssociation],
-) -> Result<Vec<((ByBytes, ByBytes), usize)>, Memory>
-    ensures { IfOk result (λ v. v.items ≡ association_entries 0 associations.now) }
-{
-    let mut entries = Vec::with_capacity(alloc, associations.len())?;
-    for (place, association) in associations.iter().enumerate() {
-        let ua = ByBytes {
-            name: association.ua,
-        };
-        let at = ByBytes {
-            name: association.at,
-        };
-        entries.push(((ua, at), place))?;
-    }
-    Ok(entries)
+    let places = places_by_name(alloc, pairs)?;
+    items_at(alloc, pairs, places.as_slice())
 }
 
 /// The places of associations by `ua` and then `at`.
@@ -218,6 +268,5 @@ pub fn associations_by_name(
     ensures order { IfOk result (λ v. map (association_in associations.now) v.items ≡ sorted joins_before associations.now) }
     ensures places { IfOk result (λ v. (k : ℕ) → Contains v.items k → k < length associations.now) }
 {
-    let entries = association_entries(alloc, associations)?;
-    values_by_key(alloc, entries.as_slice())
+    places_by_name(alloc, associations)
 }

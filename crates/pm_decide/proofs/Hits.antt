@@ -1,8 +1,8 @@
 -- A walk over the user attributes that contain a user, word by word: what one of them settles, and what a word does.
-use Rattle.std.proofs.Common.{◌≡◌, ◌≢◌, ℕ, ◌+◌, ◌*◌, ◌/◌, ◌%◌, ◌<◌, ◌≤◌, ◌==◌, ◌&&◌, ◌||◌, not, nat_lt, Bool, true, false, List, [], ◌∷◌, filter, All, refl, sym, ap, ◌∙◌, arith, inl, inr}
+use Rattle.std.proofs.Common.{◌≡◌, ℕ, ◌+◌, ◌*◌, ◌/◌, ◌%◌, ◌<◌, ◌≤◌, ◌==◌, ◌&&◌, ◌||◌, not, nat_lt, Bool, true, false, List, [], ◌∷◌, filter, All, refl, sym, ap, ◌∙◌, arith, inl, inr}
 use Rattle.std.specs.Int.{bit_at}
 use Rattle.std.specs.List.{list_any}
-use Rattle.std.proofs.lemmas.Bool.{cases_lt, cases_eq, lt-ltb, le-ltb, eq-eqb, ne_eqb, eqb-true, and_parts}
+use Rattle.std.proofs.lemmas.Bool.{cases_lt, cases_eq, lt-ltb, le-ltb, eq-eqb, ne_eqb, and_parts}
 use Rattle.std.proofs.lemmas.List.Elements.{All-cons, All-nil, All-head, All-tail, All-weaker, All-filter}
 use Rattle.std.proofs.lemmas.Nat.Bits.{bit_at-zero}
 use Rattle.pm_model.specs.Decision.{is_grantee}
@@ -112,15 +112,6 @@ module _ (k word i : ℕ) (place : i < 64) (set : (bit_at word i == 1) ≡ true)
       pub hit-first : (test : Grantee → Bool) → some_of (in_word k word) test gs ≡ (test g || some_of (in_word k left) test gs)
       hit-first test = one-hit test (in_word k word) (in_word k left) (64 * k + i) hit-there hit-others gs g found
 
-      pub hit-no : (test : Grantee → Bool) (whole : Bool) → whole ≡ some_of (in_word k word) test gs → false ≡ test g → whole ≡ some_of (in_word k left) test gs
-      hit-no test whole is out = is ∙ hit-first test ∙ rw (← out) refl
-
-  pub hit-yes : (gs : List Grantee) (g : Grantee) → filter (is_grantee (64 * k + i)) gs ≡ g ∷ [] → (test : Grantee → Bool) (whole : Bool) →
-      whole ≡ some_of (in_word k word) test gs → true ≡ test g → true ≡ whole
-  hit-yes gs g found test whole is gives =
-      sym (is ∙ one-hit test (in_word k word) (λ n. in_word k word n && not (n == 64 * k + i)) (64 * k + i) hit-there (λ n. refl) gs g found
-      ∙ rw (← gives) refl)
-
 -- in a word with no bit there is none
 pub no-hits : (test : Grantee → Bool) (k word : ℕ) (gs : List Grantee) → word ≡ 0 → false ≡ some_of (in_word k word) test gs
 no-hits test k word gs none =
@@ -173,13 +164,6 @@ module _ (below : ℕ → ℕ → Bool) (u : ℕ) (test : Grantee → Bool) (gs 
         (All-weaker (λ (g : Grantee). list_any (is_grantee g.ua) gs ≡ true)
         (λ (g : Grantee). from_word below u k g.ua ≡ (in_word k word g.ua || from_word below u (k + 1) g.ua))
         (λ g h. at_number g.ua h) gs (known gs))
-
-    pub word-yes : (whole : Bool) → whole ≡ some_of (from_word below u k) test gs → true ≡ some_of (in_word k word) test gs → true ≡ whole
-    word-yes whole is gives = sym (is ∙ word-step ∙ rw (← gives) refl)
-
-    pub word-no : (whole : Bool) → whole ≡ some_of (from_word below u k) test gs → false ≡ some_of (in_word k word) test gs →
-        whole ≡ some_of (from_word below u (k + 1)) test gs
-    word-no whole is out = is ∙ word-step ∙ rw (← out) refl
 
   pub words-done : (words k : ℕ) → All (λ (g : Grantee). g.ua < 64 * words) gs → words ≤ k → false ≡ some_of (from_word below u k) test gs
   words-done words k within done = some_of-none test (from_word below u k) gs

@@ -8,4 +8,5 @@ pub mod Orders
 pub mod Privileges
 pub mod RightSets
 pub mod Runs
+pub mod Unmet
 pub mod Walks

@@ -41,19 +41,6 @@ pub place-no : {X : Type 0} (p : X → Bool) (xs : List X) (i : ℕ) (x : X) →
     slice_get xs i ≡ Some x → false ≡ p x → position_from p 0 xs ≡ position_from p (i + 1) (drop (i + 1) xs)
 place-no p xs i x rest is fails = rest ∙ rw (drop-item xs i x is, ← fails) refl
 
--- the first that passes, of those that pass a filter
-pub first-out : {X : Type 0} (f p : X → Bool) (xs : List X) (i : ℕ) (x : X) → find p (filter f xs) ≡ find p (filter f (drop i xs)) →
-    slice_get xs i ≡ Some x → false ≡ f x → find p (filter f xs) ≡ find p (filter f (drop (i + 1) xs))
-first-out f p xs i x rest is out = rest ∙ rw (drop-item xs i x is, ← out) refl
-
-pub first-no : {X : Type 0} (f p : X → Bool) (xs : List X) (i : ℕ) (x : X) → find p (filter f xs) ≡ find p (filter f (drop i xs)) →
-    slice_get xs i ≡ Some x → true ≡ f x → false ≡ p x → find p (filter f xs) ≡ find p (filter f (drop (i + 1) xs))
-first-no f p xs i x rest is within fails = rest ∙ rw (drop-item xs i x is, ← within, ← fails) refl
-
-pub first-yes : {X : Type 0} (f p : X → Bool) (xs : List X) (i : ℕ) (x : X) → find p (filter f xs) ≡ find p (filter f (drop i xs)) →
-    slice_get xs i ≡ Some x → true ≡ f x → true ≡ p x → Some x ≡ find p (filter f xs)
-first-yes f p xs i x rest is within passes = rw (rest, drop-item xs i x is, ← within, ← passes)
-
 -- one is found that fails exactly where not all pass
 pub found-by_all : {X : Type 0} (p : X → Bool) (xs : List X) → is_some (find (λ x. not (p x)) xs) ≡ not (list_all p xs)
 found-by_all p [] = refl

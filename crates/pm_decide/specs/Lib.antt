@@ -3,4 +3,5 @@ pub mod Hits
 pub mod Live
 pub mod Meaning
 pub mod Sets
+pub mod Unmet
 pub mod Verdict

@@ -1,7 +1,7 @@
 //! The user attributes that have associations and that a user is in, by words of 64 numbers: bit i of
 //! word k is the number 64 k + i.
 
-ghost use Rattle.std.specs.Prelude.{◌≡◌, ◌<◌, ◌==◌, ◌&&◌, ℕ, true, not};
+ghost use Rattle.std.specs.Prelude.{◌≡◌, ◌<◌, ◌==◌, ◌&&◌, ◌||◌, ℕ, true, false, not};
 ghost use Rattle.std.specs.Int.{bit_at};
 ghost use Rattle.pm_decide.specs.Live.{IsLive};
 ghost use Rattle.pm_decide.specs.Hits.{AreHits};
@@ -27,8 +27,18 @@ pub fn lowest(word: u64) -> u32
     requires { 0 < word }
     ensures within { result < 64 }
     ensures set { (bit_at word result == 1) ≡ true }
+    ensures first { (j : ℕ) → j < result → (bit_at word j == 1) ≡ false }
 {
     word.trailing_zeros()
+}
+
+/// The word with one bit more.
+#[tactic(auto, using(crate::proofs::Bits::more_bits))]
+pub fn with_bit(word: u64, i: u32) -> u64
+    requires { i < 64 }
+    ensures { (j : ℕ) → j < 64 → (bit_at result j == 1) ≡ (bit_at word j == 1 || j == i) }
+{
+    word | 1 << i
 }
 
 /// The word without one of its bits.

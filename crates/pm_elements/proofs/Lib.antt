@@ -1,4 +1,5 @@
 pub mod Assigned
+mod Bounds
 pub mod Created
 pub mod Edits
 pub mod Fits

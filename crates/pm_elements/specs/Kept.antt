@@ -8,7 +8,7 @@ use Rattle.pm_elements.specs.declared.slots.Slot.{Slot}
 use Rattle.pm_elements.specs.declared.table.Elements.TheInside.{Inside}
 use Rattle.pm_model.specs.Effect.{max_elements, max_assignments, is_pair, is_to}
 use Rattle.pm_elements.specs.Listed.{Listed}
-use Rattle.pm_elements.specs.Slots.{shown, pairs_of, slot_at, children_of}
+use Rattle.pm_elements.specs.Slots.{shown, pairs_of, slot_at, children_of, first_free}
 
 abbrev pub listed : Inside → Listed
 listed t = record { elements = shown t.slots.items; assigned = pairs_of t.slots.items; alone = t.slots.alone && t.names.alone }
@@ -31,5 +31,7 @@ pub record Kept (slots : List (Option Slot)) (names : List (List ℕ × ℕ)) (l
   pub few : length slots ≤ max_elements
   pub few_links : links ≤ max_assignments
 
-abbrev pub IsKept : Inside → Type 0
-IsKept t = Kept t.slots.items t.names.items t.live t.links
+pub record IsKept (t : Inside) : Type 0 where
+  pub kept : Kept t.slots.items t.names.items t.live t.links
+  -- no number below this one is free
+  pub taken : t.free_from ≤ first_free t.slots.items

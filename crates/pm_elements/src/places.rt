@@ -47,12 +47,13 @@ fn free_in(slots: &[Option<Slot>]) -> usize
     slots.len()
 }
 
-/// The first slot that is free, or the number of slots.
-fn first_free(slots: &Slots) -> usize
+/// The first slot that is free, or the number of slots. Those before `from` are taken.
+fn first_free(slots: &Slots, from: usize) -> usize
+    requires { from ≤ first_free slots.now.items }
     ensures answer { result ≡ first_free slots.now.items }
     ensures within { result ≤ length slots.now.items }
 {
-    let mut before = 0;
+    let mut before = from;
     while before < slots.len() {
         let run = slots.run(before);
         let n = free_in(run);
@@ -64,10 +65,11 @@ fn first_free(slots: &Slots) -> usize
     before
 }
 
-/// The least number that is free, where this many elements are live.
+/// The least number that is free, where this many elements are live. Those below `from` are taken.
 #[tactic(auto, using(crate::proofs::Placing::all_taken, crate::proofs::Placing::free_few))]
-pub(crate) fn least_free(slots: &Slots, live: usize) -> ElementId
+pub(crate) fn least_free(slots: &Slots, live: usize, from: usize) -> ElementId
     requires counted { live ≡ length (shown slots.now.items) }
+    requires taken { from ≤ first_free slots.now.items }
     requires few { length slots.now.items ≤ max_elements }
     ensures number { result ≡ first_free slots.now.items }
     ensures few { result ≤ live }
@@ -75,7 +77,7 @@ pub(crate) fn least_free(slots: &Slots, live: usize) -> ElementId
     if live == slots.len() {
         return ElementId(live as u32);
     }
-    ElementId(first_free(slots) as u32)
+    ElementId(first_free(slots, from) as u32)
 }
 
 /// The slot of a new element.

@@ -38,6 +38,8 @@ pub struct Elements {
     names: Names,
     live: usize,
     links: usize,
+    /// No number below this one is free.
+    free_from: usize,
 }
 
 impl Drop for Elements {
@@ -47,6 +49,7 @@ impl Drop for Elements {
             names: _,
             live: _,
             links: _,
+            free_from: _,
         } = self;
     }
 }
@@ -87,6 +90,7 @@ impl Elements {
             names: Names::new(alloc),
             live: 0,
             links: 0,
+            free_from: 0,
         }
     }
 
@@ -126,6 +130,7 @@ impl Elements {
             names: self.names.copy()?,
             live: self.live,
             links: self.links,
+            free_from: self.free_from,
         })
     }
 
@@ -234,6 +239,7 @@ impl Elements {
         place(&mut self.slots, &mut self.names, id, new)?;
         self.live += 1;
         self.links += new.links();
+        self.free_from = id.number() as usize + 1;
         Ok(id)
     }
 
@@ -293,6 +299,7 @@ impl Elements {
         take_out(&mut self.slots, &mut self.names, id)?;
         self.live -= 1;
         self.links -= links;
+        self.free_from = self.free_from.min(id.number() as usize);
         Ok(())
     }
 
@@ -326,7 +333,7 @@ impl Elements {
         ensures number { result ≡ unused self.now.elements }
         ensures few { result ≤ length self.now.elements }
     {
-        least_free(&self.slots, self.live)
+        least_free(&self.slots, self.live, self.free_from)
     }
 
     /// Whether something is assigned to a live element.

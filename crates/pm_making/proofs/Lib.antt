@@ -1,3 +1,3 @@
 pub mod Accepted
-pub mod Firsts
+pub mod Known
 pub mod Written

@@ -1,5 +1,5 @@
 -- Lines that are written one after another.
-use Rattle.std.proofs.Common.{◌≡◌, ◌<◌, ◌+◌, ℕ, List, [], ◌∷◌, ◌++◌, length, map, take, get_or, None, Result, Ok, Err, refl, sym, ◌∙◌, ap, subst, append_assoc}
+use Rattle.std.proofs.Common.{◌≡◌, ◌<◌, ◌+◌, ℕ, List, [], ◌∷◌, ◌++◌, length, map, take, get_or, None, Option, Some, option_map, Result, Ok, Err, refl, sym, ◌∙◌, ap, subst, append_assoc}
 use Rattle.std.specs.Prelude.{⊤}
 use Rattle.std.specs.Result.{OnOk, OnErr}
 use Rattle.std.proofs.lemmas.List.{append-nil, take_more}
@@ -7,11 +7,14 @@ use Rattle.std.proofs.Math.Seq.{take-append_seam, take-length}
 use Rattle.pm_model.specs.declared.requests.Command.{Command}
 use Rattle.pm_model.specs.declared.requests.Command.TheVariants as command
 use Rattle.pm_by_name.specs.Keyed.{association_in}
+use Rattle.pm_order.specs.Ranked.{turn}
 use Rattle.pm_policy.specs.Order.{order, sorted}
-use Rattle.pm_policy.specs.Requests.{asked, assign, associate, by_name, create, joins_before, others, prohibit}
+use Rattle.pm_policy.specs.Requests.{asked, assign, associate, by_name, create, created_in, first_assignment, joins_before, others, prohibit}
+use Rattle.pm_policy.specs.declared.policy.DocAssignment.{DocAssignment}
+use Rattle.pm_policy.specs.declared.policy.DocElement.{DocElement}
 use Rattle.pm_policy.specs.declared.policy.Policy.{Policy}
 use Rattle.pm_print.specs.Requested.{request_text}
-use Rattle.pm_making.specs.Lines.{document_lines, lines_of, ArePartsOf}
+use Rattle.pm_making.specs.Lines.{created_into, creating, document_lines, lines_of, ArePartsOf}
 use Rattle.pm_making.specs.declared.lines.Parts.{Parts}
 
 -- ---- what stood stands
@@ -71,9 +74,20 @@ map-map : {X Y Z : Type 0} (f : X → Y) (g : Y → Z) (xs : List X) → map g (
 map-map f g [] = refl
 map-map f g (x ∷ xs) = ap (λ l. g (f x) ∷ l) (map-map f g xs)
 
+-- an element is made in the first of its containers
+created-same : (e : DocElement) (first : Option DocAssignment) → created_into e (option_map (λ (p : DocAssignment). p.to) first) ≡ created_in e first
+created-same e None = refl
+created-same e (Some p) = refl
+
+created-turns : (pairs : List DocAssignment) (es : List DocElement) → map creating (map (turn pairs) es) ≡ map (create pairs) es
+created-turns pairs [] = refl
+created-turns pairs (e ∷ es) =
+    let this : creating (turn pairs e) ≡ create pairs e = created-same e (first_assignment pairs e.name) in
+    let rest = created-turns pairs es in cc
+
 -- the lines of the parts are those of the document
 pub parts-lines : (D : Policy) (p : Parts) → ArePartsOf D p →
-    lines_of (map command.DefineRight D.rights) ++ lines_of (map (create p.assignments) p.ordered.items) ++ lines_of (map assign p.others.items)
+    lines_of (map command.DefineRight D.rights) ++ lines_of (map creating p.making.turns.items) ++ lines_of (map assign p.making.others.items)
     ++ lines_of (map (λ k. associate (association_in D.associations k)) p.associations.items) ++ lines_of (map prohibit D.prohibitions)
     ≡ document_lines D
 parts-lines D p parts =
@@ -81,9 +95,8 @@ parts-lines D p parts =
     let creations = map (create (by_name D)) (order (by_name D) D.elements) in
     let assigned = map assign (others D.elements (by_name D)) in
     let associated = map associate (sorted joins_before D.associations) in
-    let made : map (create p.assignments) p.ordered.items ≡ creations =
-    ap (λ ps. map (create ps) p.ordered.items) parts.assignments ∙ ap (λ l. map (create (by_name D)) l) parts.ordered in
-    let other : map assign p.others.items ≡ assigned = ap (λ l. map assign l) parts.others in
+    let made : map creating p.making.turns.items ≡ creations = ap (λ l. map creating l) parts.turns ∙ created-turns (by_name D) (order (by_name D) D.elements) in
+    let other : map assign p.making.others.items ≡ assigned = ap (λ l. map assign l) parts.others in
     let joined : map (λ k. associate (association_in D.associations k)) p.associations.items ≡ associated =
     sym (map-map (association_in D.associations) associate p.associations.items) ∙ ap (λ l. map associate l) parts.associations in
     rw (made, other, joined)

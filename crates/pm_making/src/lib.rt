@@ -1,7 +1,6 @@
 //! The lines that make a policy document.
 #![tactic(auto)]
 
-mod assignments;
 mod laws;
 mod lines;
 mod requests;

@@ -6,6 +6,7 @@ ghost use Rattle.pm_model.specs.declared.requests.Command.{Command};
 ghost use Rattle.pm_policy.specs.Requests.{asked, assign, associate, prohibit};
 
 use pm_model::{Body, Command, Memory, Name, Request};
+use pm_order::Turn;
 use pm_policy::{DocAssignment, DocAssociation, DocElement, DocProhibition};
 
 fn asked(command: Command) -> Request
@@ -41,25 +42,15 @@ impl Item for Name {
     }
 }
 
-/// An element, and the first of its assignments, where it has one.
-#[derive(Clone, Copy)]
-pub(crate) struct Creation {
-    pub(crate) element: DocElement,
-    pub(crate) first: Option<DocAssignment>,
-}
-
-impl Item for Creation {
+/// An element in the first of its containers, where it has one.
+impl Item for Turn {
     ghost made_by = { creating };
 
     fn request(&self) -> Result<Request, Memory> {
         let DocElement { kind, name } = self.element;
-        Ok(asked(match self.first {
+        Ok(asked(match self.into {
             None => Command::CreatePc { name },
-            Some(pair) => Command::Create {
-                kind,
-                name,
-                into: pair.to,
-            },
+            Some(into) => Command::Create { kind, name, into },
         }))
     }
 }

@@ -3,13 +3,12 @@
 ghost use Rattle.std.specs.Prelude.{◌≡◌, ℕ, ◌<◌, ◌++◌, length, map, take, Contains, None, OnOk, OnErr};
 ghost use Rattle.pm_making.specs.Lines.{lines_of};
 ghost use Rattle.pm_by_name.specs.Keyed.{association_in};
-ghost use Rattle.pm_policy.specs.Requests.{asked, associate, create};
+ghost use Rattle.pm_policy.specs.Requests.{asked, associate};
 ghost use Rattle.pm_print.specs.Requested.{request_text};
 
-use crate::assignments::Assignments;
 use crate::requests::Item;
 use pm_model::Memory;
-use pm_policy::{DocAssociation, DocElement};
+use pm_policy::DocAssociation;
 use pm_print::print_request;
 
 // Writes the line of the item. What stood stands in any case.
@@ -28,21 +27,6 @@ pub(crate) fn write_all<T: Item>(items: &[T], out: &mut Vec<u8>) -> Result<(), M
 {
     for item in items {
         write(item, out)?;
-    }
-    Ok(())
-}
-
-/// Writes the lines of elements, each with the first of its assignments. What stood stands in any case.
-pub(crate) fn write_creations(
-    elements: &[DocElement],
-    assignments: &Assignments,
-    out: &mut Vec<u8>,
-) -> Result<(), Memory>
-    ensures ok { OnOk result (out.new.items ≡ out.old.items ++ lines_of (map (create assignments.now) elements.now)) }
-    ensures front { take (length out.old.items) out.new.items ≡ out.old.items }
-{
-    for element in elements {
-        write(&assignments.creation(element), out)?;
     }
     Ok(())
 }

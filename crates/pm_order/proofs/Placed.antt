@@ -1,21 +1,22 @@
 -- Elements of different names at their places.
-use Rattle.std.proofs.Common.{zero, suc, ◌≡◌, ◌<◌, ◌+◌, ℕ, true, false, List, [], ◌∷◌, ◌++◌, length, map, filter, get_or, slice_set, Contains, inl, inr, refl, sym, ◌∙◌, ap, subst, arith, bytes_eq, take, replicate, if◌then◌else◌}
+use Rattle.std.proofs.Common.{zero, suc, ◌≡◌, ◌<◌, ◌+◌, ℕ, true, false, List, [], ◌∷◌, ◌++◌, length, map, filter, get_or, slice_get, slice_set, Some, Contains, inl, inr, refl, sym, ◌∙◌, ap, subst, arith, bytes_eq, take, replicate, if◌then◌else◌}
 use Rattle.std.specs.List.{list_any, position_or_len}
 use Rattle.std.proofs.lemmas.Bool.{cases_Bool, cond_both}
 use Rattle.std.proofs.lemmas.List.{get_or_default, length-map, map-append}
 use Rattle.std.proofs.lemmas.List.Elements.{filter-append}
 use Rattle.std.proofs.lemmas.Slice.Eq.{bytes_eq-Decides}
 use Rattle.indexmap.specs.IndexSet.{insert_key}
-use Rattle.pm_laws.proofs.Items.{contains-first, contains-none, contains-rest, filter-contains, none-at}
+use Rattle.pm_laws.proofs.Items.{contains-first, contains-none, contains-rest, filter-contains, get-contains, none-at}
 use Rattle.pm_laws.proofs.Names.{other-swapped}
 use Rattle.pm_policy.specs.Order.{is_made}
 use Rattle.pm_model.specs.declared.elements.Kind.TheVariants.{Pc}
 use Rattle.pm_policy.specs.Policy.{doc_element, is_assigned, is_called}
-use Rattle.pm_policy.specs.Sound.{AreOnceCalled}
+use Rattle.pm_policy.specs.Sound.{AreOnce, AreOnceCalled}
 use Rattle.pm_policy.specs.Waiting.{AreKnown}
 use Rattle.pm_policy.specs.declared.policy.DocElement.{DocElement}
 use Rattle.pm_policy.specs.declared.policy.DocAssignment.{DocAssignment}
 use Rattle.pm_policy.proofs.Ordered.{map-contains, same-name}
+use Rattle.pm_by_name.proofs.Keyed.{once-map}
 use Rattle.pm_order.specs.Ranked.{containers, containers_of, element_in, place, AreWithin}
 
 -- the place is where the name stands among the names
@@ -85,6 +86,18 @@ name_known (e ∷ es) name h = elim (cases_Bool (is_called name e)) [
   | inl is ↦ rw is refl
   | inr other ↦ rw other (name_known es name (rw other at h))
 ]
+
+-- where names are different, one has the place at which it stands
+pub position_at : (names : List (List ℕ)) (name : List ℕ) (k : ℕ) → AreOnce bytes_eq names → slice_get names k ≡ Some name → position_or_len (bytes_eq name) names ≡ k
+position_at [] name k once is = absurd (cc)
+position_at (n ∷ names) name zero once is =
+    let same : bytes_eq name n ≡ true = (bytes_eq-Decides name n).1 (cc) in rw same refl
+position_at (n ∷ names) name (suc k) once is =
+    let other : bytes_eq name n ≡ false = other-swapped n name (none-at (bytes_eq n) names name once.0 (get-contains names k name is)) in
+    let rest = position_at names name k once.1 is in rw other (omega (arith, rest))
+
+pub names_once : (es : List DocElement) → AreOnceCalled es → AreOnce bytes_eq (map (λ (e : DocElement). e.name) es)
+names_once es once = once-map (λ (e : DocElement). e.name) (λ (d e : DocElement). is_called d.name e) bytes_eq (λ d e. refl) es once
 
 -- ---- one assignment more
 

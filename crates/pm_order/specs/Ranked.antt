@@ -1,10 +1,12 @@
 -- The order of elements by their places in a list. The project's own.
-use Rattle.std.specs.Prelude.{ℕ, zero, suc, ◌+◌, ◌<◌, ◌≡◌, ◌↔◌, ◌⊎◌, Bool, true, false, not, ◌&&◌, List, [], ◌∷◌, length, map, filter, get_or, slice_set, Contains, Option, None, Some, if◌then◌else◌}
+use Rattle.std.specs.Prelude.{ℕ, zero, suc, ◌+◌, ◌<◌, ◌≡◌, ◌↔◌, ◌⊎◌, Bool, true, false, not, nat_lt, ◌==◌, ◌&&◌, ◌||◌, List, [], ◌∷◌, length, map, filter, get_or, slice_get, slice_set, Contains, Option, None, Some, option_map, if◌then◌else◌}
 use Rattle.std.specs.List.{list_all}
 use Rattle.pm_model.specs.declared.elements.Kind.TheVariants.{Pc}
 use Rattle.pm_policy.specs.Policy.{doc_element, is_assigned, is_called}
 use Rattle.pm_policy.specs.declared.policy.DocElement.{DocElement}
 use Rattle.pm_policy.specs.declared.policy.DocAssignment.{DocAssignment}
+use Rattle.pm_policy.specs.Requests.{first_assignment}
+use Rattle.pm_order.specs.declared.creation.Turn.{Turn}
 
 -- ---- places
 
@@ -38,6 +40,11 @@ AreAdded item places before now =
 abbrev pub AreChildren : List (List ℕ) → List (List ℕ) → Type 0
 AreChildren below above = (k i : ℕ) → Contains (get_or below k []) i ↔ Contains (get_or above i []) k
 
+-- no element is made with one more assignment of that at a place: it is one of the first ones, which stand already, or has a
+-- container
+abbrev pub is_other : ℕ → ℕ → List ℕ → Bool
+is_other first k containers = nat_lt k first || not (length containers == 0)
+
 -- ---- the order
 
 -- the element at the place isn't made, and its containers are
@@ -65,3 +72,16 @@ then_ranks (Some k) rest = k ∷ rest k
 abbrev pub ranked : List (List ℕ) → ℕ → List Bool → List ℕ
 ranked above zero made = []
 ranked above (suc n) made = then_ranks (first_from 0 made above) (λ k. ranked above n (slice_set made k true))
+
+-- ---- turns
+
+-- an element, and what the first of its assignments leads to
+abbrev pub turn : List DocAssignment → DocElement → Turn
+turn pairs e = record { element = e; into = option_map (λ (p : DocAssignment). p.to) (first_assignment pairs e.name) }
+
+-- the same of the element at a place, by the containers of each
+abbrev pub into_at : List DocElement → List (List ℕ) → ℕ → Option (List ℕ)
+into_at es above k = option_map (λ j. (element_in es j).name) (slice_get (get_or above k []) 0)
+
+abbrev pub turn_at : List DocElement → List (List ℕ) → ℕ → Turn
+turn_at es above k = record { element = element_in es k; into = into_at es above k }

@@ -1,12 +1,18 @@
-//! The order of the elements of a document.
+//! The order in which the elements of a document are made, and the assignments that none is made with.
 
-ghost use Rattle.std.specs.Prelude.{◌≡◌, ◌↔◌, true, IfOk};
+ghost use Rattle.std.specs.Prelude.{◌≡◌, ◌↔◌, List, map, true, IfOk};
 ghost use Rattle.pm_model.specs.Name.{is_name};
+ghost use Rattle.pm_order.specs.Ranked.{containers, turn, AreWithin};
 ghost use Rattle.pm_policy.specs.Order.{order};
 ghost use Rattle.pm_policy.specs.Policy.{doc_element, standing};
-ghost use Rattle.pm_policy.specs.Sound.{AreOnceCalled, IsAcyclic};
+ghost use Rattle.pm_policy.specs.Requests.{others};
+ghost use Rattle.pm_policy.specs.Sound.{AreOnceAssigned, AreOnceCalled, IsAcyclic};
 ghost use Rattle.pm_policy.specs.Waiting.{AreKnown};
+ghost use Rattle.pm_policy.specs.declared.policy.DocAssignment.{DocAssignment};
+ghost use Rattle.pm_policy.specs.declared.policy.DocElement.{DocElement};
 
+use crate::creation::{Turn, turns_at};
+use crate::places::{Containers, links};
 use crate::turns::turns;
 use pm_by_name::elements_by_name;
 use pm_model::{Kind, Memory, Name};
@@ -24,45 +30,62 @@ fn element(kind: Kind, name: &str) -> DocElement
     DocElement { kind, name }
 }
 
-/// The elements behind those of the opening.
-fn standing(alloc: Global, elements: &[DocElement]) -> Result<Vec<DocElement>, Memory>
-    ensures { IfOk result (λ v. v.items ≡ standing elements.now) }
+/// The elements behind those of the opening. Their own list goes back at once, so that what is made next has its memory.
+fn standing(alloc: Global, elements: Vec<DocElement>) -> Result<Vec<DocElement>, Memory>
+    ensures { IfOk result (λ v. v.items ≡ standing elements.items) }
 {
     let mut all = Vec::new(alloc);
     all.push(element(Kind::Pc, "pm"))?;
     all.push(element(Kind::Ua, "pm_admins"))?;
     all.push(element(Kind::User, "root"))?;
-    all.extend_from_slice(elements)?;
+    all.extend_from_slice(elements.as_slice())?;
     Ok(all)
 }
 
+/// How the elements and assignments of a document are made: the elements by turns, and the assignments that none of them is
+/// made with.
+pub struct Making {
+    pub turns: Vec<Turn>,
+    pub others: Vec<DocAssignment>,
+}
+
+impl Drop for Making {
+    fn drop(self) {
+        let Making {
+            turns: _,
+            others: _,
+        } = self;
+    }
+}
+
 /// The elements in the order in which they can be made in the opening state: always the one with the least name whose
-/// containers are all made. An assignment of an element of the opening keeps none waiting. Where the assignments lead around,
-/// what waits for ever is left out.
+/// containers are all made, each in the first of these. An assignment of an element of the opening keeps none waiting. Where the
+/// assignments lead around, what waits for ever is left out. The other assignments stand as they are given.
 pub fn order(
     alloc: Global,
     elements: &[DocElement],
     pairs: &[DocAssignment],
-) -> Result<Vec<DocElement>, Memory>
+) -> Result<Making, Memory>
     requires once { AreOnceCalled (standing elements.now) }
     requires known { AreKnown pairs.now (standing elements.now) }
-    ensures { IfOk result (λ v. v.items ≡ order pairs.now elements.now) }
+    requires assigned { AreOnceAssigned pairs.now }
+    ensures turns { IfOk result (λ m. m.turns.items ≡ map (turn pairs.now) (order pairs.now elements.now)) }
+    ensures others { IfOk result (λ m. m.others.items ≡ others elements.now pairs.now) }
 {
     let by_name = elements_by_name(alloc, elements)?;
-    let all = standing(alloc, by_name.as_slice())?;
-    turns(alloc, all.as_slice(), pairs, OPENING)
+    let all = standing(alloc, by_name)?;
+    let (containers, others) = links(alloc, all.as_slice(), pairs, OPENING)?;
+    let places = turns(alloc, containers.lists(), OPENING)?;
+    let turns = turns_at(alloc, all.as_slice(), &containers, places.as_slice())?;
+    Ok(Making { turns, others })
 }
 
-/// Whether the assignments lead around nowhere. Those of the opening, and its elements, are to be among them where they count.
-pub fn has_order(
-    alloc: Global,
-    elements: &[DocElement],
-    pairs: &[DocAssignment],
-) -> Result<bool, Memory>
-    requires once { AreOnceCalled elements.now }
-    requires known { AreKnown pairs.now elements.now }
-    ensures { IfOk result (λ found. (found ≡ true) ↔ IsAcyclic pairs.now) }
+/// Whether the assignments that these containers are made of lead around nowhere. Those of the opening, and its elements, are
+/// to be among them where they count.
+pub fn has_order(alloc: Global, above: &Containers) -> Result<bool, Memory>
+    requires { AreWithin above.now }
+    ensures { IfOk result (λ found. (es : List DocElement) (pairs : List DocAssignment) → AreOnceCalled es → AreKnown pairs es → above.now ≡ containers es pairs → (found ≡ true) ↔ IsAcyclic pairs) }
 {
-    let turns = turns(alloc, elements, pairs, 0)?;
-    Ok(turns.len() == elements.len())
+    let turns = turns(alloc, above.lists(), 0)?;
+    Ok(turns.len() == above.lists().len())
 }

@@ -1,9 +1,10 @@
 //! Elements by their places in a list, found by name.
 
-ghost use Rattle.std.specs.Prelude.{◌≡◌, ◌<◌, ◌++◌, ◌∷◌, ℕ, [], true, length, get_or, map, replicate, slice_set, Contains, IfOk, OnOk, bytes_eq};
+ghost use Rattle.std.specs.Prelude.{◌≡◌, ◌↔◌, ◌<◌, ◌++◌, ◌∷◌, ℕ, [], true, length, drop, get_or, map, replicate, slice_get, slice_set, Contains, Some, IfOk, OnOk, bytes_eq, if◌then◌else◌};
 ghost use Rattle.std.specs.List.{list_any, position_or_len};
-ghost use Rattle.pm_order.specs.Ranked.{containers, AreAdded, AreChildren, AreWithin};
-ghost use Rattle.pm_policy.specs.Sound.{AreOnceCalled};
+ghost use Rattle.pm_order.specs.Ranked.{containers, is_other, AreAdded, AreChildren, AreWithin};
+ghost use Rattle.pm_policy.specs.Requests.{others};
+ghost use Rattle.pm_policy.specs.Sound.{AreOnce, AreOnceAssigned, AreOnceCalled};
 ghost use Rattle.pm_policy.specs.Waiting.{AreKnown};
 ghost use Rattle.pm_policy.specs.declared.policy.DocElement.{DocElement};
 
@@ -52,6 +53,31 @@ impl Places {
     {
         self.names.get_index_of(name).unwrap()
     }
+
+    fn stands_at(&self, name: &Name, place: usize) -> bool
+        ensures { (result ≡ true) ↔ (slice_get self.now place ≡ Some name.now) }
+    {
+        match self.names.get_index(place) {
+            Some(there) => there == name,
+            None => false,
+        }
+    }
+
+    // The same place. It is found faster where it is the likely one, or the next.
+    fn find_near(&self, name: &Name, likely: usize) -> usize
+        requires known { list_any (bytes_eq name.now) self.now ≡ true }
+        requires once { AreOnce bytes_eq self.now }
+        ensures { result ≡ position_or_len (bytes_eq name.now) self.now }
+    {
+        if self.stands_at(name, likely) {
+            return likely;
+        }
+        let next = likely.saturating_add(1);
+        if self.stands_at(name, next) {
+            return next;
+        }
+        self.find(name)
+    }
 }
 
 fn empty_lists(alloc: Global, count: usize) -> Result<Vec<ItemList<usize>>, Memory>
@@ -71,24 +97,101 @@ fn add(lists: &mut [ItemList<usize>], at: usize, item: usize) -> Result<(), Memo
     lists[at].push(item)
 }
 
-/// The containers of each element, by their places.
-pub(crate) fn containers(
+/// The containers of elements, all by their places from 0 on. Contracts see the list of their lists.
+pub struct Containers {
+    lists: Vec<ItemList<usize>>,
+}
+
+impl Drop for Containers {
+    fn drop(self) {
+        let Containers { lists: _ } = self;
+    }
+}
+
+impl Model for Containers {
+    ghost use Rattle.std.specs.Prelude.{List, ℕ};
+
+    ghost Value = { List (List ℕ) };
+
+    ghost view = { λ c. c.lists.items };
+}
+
+impl Containers {
+    /// Of so many elements none has a container.
+    pub fn none(alloc: Global, count: usize) -> Result<Containers, Memory>
+        ensures { IfOk result (λ c. c ≡ replicate count []) }
+    {
+        let lists = empty_lists(alloc, count)?;
+        Ok(Containers { lists })
+    }
+
+    /// Puts one container more behind those of an element.
+    pub fn add(&mut self, place: usize, container: usize) -> Result<(), Memory>
+        requires { place < length self.old }
+        ensures { OnOk result (self.new ≡ slice_set self.old place (get_or self.old place [] ++ container ∷ [])) }
+    {
+        self.lists[place].push(container)
+    }
+
+    /// Those of the element at the place.
+    pub fn at(&self, place: usize) -> &[usize]
+        requires { place < length self.now }
+        ensures { result.now ≡ get_or self.now place [] }
+    {
+        self.lists[place].as_slice()
+    }
+
+    /// The lists of all elements.
+    pub(crate) fn lists(&self) -> &[ItemList<usize>]
+        ensures { result.now ≡ self.now }
+    {
+        self.lists.as_slice()
+    }
+}
+
+/// Whether no element is made with one more assignment of that at a place: the first ones stand already, and others may have a
+/// container.
+fn is_other(above: &Containers, first: usize, place: usize) -> bool
+    requires { place < length above.now }
+    ensures { result ≡ is_other first place (get_or above.now place []) }
+{
+    place < first || above.at(place).len() > 0
+}
+
+fn push_if(list: &mut Vec<DocAssignment>, wanted: bool, pair: &DocAssignment) -> Result<(), Memory>
+    ensures { OnOk result (list.new.items ≡ list.old.items ++ (if wanted then pair.now ∷ [] else [])) }
+{
+    if wanted {
+        list.push(*pair)?;
+    }
+    Ok(())
+}
+
+/// The containers of each element by assignments, and those of the assignments that none of the elements behind the first ones
+/// is made with.
+pub(crate) fn links(
     alloc: Global,
     elements: &[DocElement],
     pairs: &[DocAssignment],
-) -> Result<Vec<ItemList<usize>>, Memory>
+    first: usize,
+) -> Result<(Containers, Vec<DocAssignment>), Memory>
     requires once { AreOnceCalled elements.now }
     requires known { AreKnown pairs.now elements.now }
-    ensures { IfOk result (λ v. v.items ≡ containers elements.now pairs.now) }
+    requires assigned { AreOnceAssigned pairs.now }
+    ensures containers { IfOk result (λ l. l.0 ≡ containers elements.now pairs.now) }
+    ensures others { IfOk result (λ l. l.1.items ≡ others (drop first elements.now) pairs.now) }
 {
     let places = Places::new(alloc, elements)?;
-    let mut containers = empty_lists(alloc, elements.len())?;
+    let mut containers = Containers::none(alloc, elements.len())?;
+    let mut others = Vec::new(alloc);
+    let mut from = 0;
     for pair in pairs {
-        let from = places.find(&pair.from);
+        from = places.find_near(&pair.from, from);
         let to = places.find(&pair.to);
-        add(containers.as_mut_slice(), from, to)?;
+        push_if(&mut others, is_other(&containers, first, from), pair)?;
+        containers.add(from, to)?;
     }
-    Ok(containers)
+    Ok((containers, others))
 }
 
 /// Adds an item to the list of each of these places.

@@ -1,15 +1,11 @@
 //! The turns of elements, by their places.
 
-ghost use Rattle.std.specs.Prelude.{◌≡◌, ◌++◌, ◌≤◌, ◌<◌, ◌-◌, ◌⊎◌, ◌↔◌, ℕ, length, get_or, take, drop, true, false, map, replicate, vec_len, Contains, IfOk, OnOk};
+ghost use Rattle.std.specs.Prelude.{◌≡◌, ◌++◌, ◌≤◌, ◌<◌, ◌-◌, ◌⊎◌, ◌↔◌, ℕ, length, get_or, true, false, replicate, vec_len, Contains, IfOk, OnOk};
 ghost use Rattle.std.specs.List.{list_all};
-ghost use Rattle.pm_order.specs.Ranked.{can_make, element_in, ranked, AreChildren, AreFree, IsFree};
-ghost use Rattle.pm_policy.specs.Order.{ordered};
-ghost use Rattle.pm_policy.specs.Sound.{AreOnceCalled};
-ghost use Rattle.pm_policy.specs.Waiting.{AreKnown};
+ghost use Rattle.pm_order.specs.Ranked.{can_make, ranked, AreChildren, AreFree, AreWithin, IsFree};
 
-use crate::places::{children, containers};
+use crate::places::children;
 use pm_model::{ItemList, Memory};
-use pm_policy::{DocAssignment, DocElement};
 use std::alloc::Global;
 use std::collections::BTreeSet;
 
@@ -97,21 +93,20 @@ fn marks(alloc: Global, made: usize, count: usize) -> Result<Vec<bool>, Memory>
     Ok(marks)
 }
 
-/// At most so many elements, always the first that can be made. Only what has the last one for a container may have become free.
+/// The places of at most so many elements, always the first that can be made. Only what has the last one for a container may
+/// have become free.
 #[tactic(auto, using(crate::proofs::Free::free_within))]
 fn ranked(
     alloc: Global,
-    elements: &[DocElement],
     containers: &[ItemList<usize>],
     children: &[ItemList<usize>],
     mut made: Vec<bool>,
     most: usize,
-) -> Result<Vec<DocElement>, Memory>
-    requires containers { length containers.now ≡ length elements.now }
-    requires count { length children.now ≡ length elements.now }
+) -> Result<Vec<usize>, Memory>
+    requires count { length children.now ≡ length containers.now }
     requires children { AreChildren children.now containers.now }
-    requires made { vec_len made ≡ length elements.now }
-    ensures { IfOk result (λ v. v.items ≡ map (element_in elements.now) (ranked containers.now most made.items)) }
+    requires made { vec_len made ≡ length containers.now }
+    ensures { IfOk result (λ v. v.items ≡ ranked containers.now most made.items) }
 {
     let mut free = all_free(alloc, made.as_slice(), containers)?;
     let mut out = Vec::with_capacity(alloc, most)?;
@@ -120,7 +115,7 @@ fn ranked(
             None => return Ok(out),
             Some(place) => {
                 made[place] = true;
-                out.push(elements[place])?;
+                out.push(place)?;
                 add_free(
                     &mut free,
                     made.as_slice(),
@@ -133,28 +128,19 @@ fn ranked(
     Ok(out)
 }
 
-/// The elements behind the first ones, which are made, in their order: of those that stand in the list, always the first
+/// The places of the elements behind the first ones, which are made, in the order of their turns: always the first of them
 /// whose containers are all made.
 pub(crate) fn turns(
     alloc: Global,
-    elements: &[DocElement],
-    pairs: &[DocAssignment],
+    containers: &[ItemList<usize>],
     made: usize,
-) -> Result<Vec<DocElement>, Memory>
-    requires once { AreOnceCalled elements.now }
-    requires known { AreKnown pairs.now elements.now }
-    requires made { made ≤ length elements.now }
-    ensures { IfOk result (λ v. v.items ≡ ordered pairs.now (length elements.now - made) (take made elements.now) (drop made elements.now)) }
+) -> Result<Vec<usize>, Memory>
+    requires within { AreWithin containers.now }
+    requires made { made ≤ length containers.now }
+    ensures { IfOk result (λ v. v.items ≡ ranked containers.now (length containers.now - made) (replicate made true ++ replicate (length containers.now - made) false)) }
 {
-    let containers = containers(alloc, elements, pairs)?;
-    let children = children(alloc, containers.as_slice())?;
-    let marks = marks(alloc, made, elements.len())?;
-    ranked(
-        alloc,
-        elements,
-        containers.as_slice(),
-        children.as_slice(),
-        marks,
-        elements.len() - made,
-    )
+    let children = children(alloc, containers)?;
+    let marks = marks(alloc, made, containers.len())?;
+    let most = containers.len() - made;
+    ranked(alloc, containers, children.as_slice(), marks, most)
 }

@@ -191,6 +191,20 @@ fn an_association_comes_and_goes(rt: HostRuntime) -> Result<(), Fail> {
     Ok(())
 }
 
+#[test]
+fn a_copy_marks_what_it_writes_to(rt: HostRuntime) -> Result<(), Fail> {
+    let lists = kept(rt.alloc())?;
+    assert!(rt; lists.is_written(&ANN));
+    let copy = lists.copy()?;
+    assert!(rt; !copy.is_written(&ANN) && !copy.is_written(&MEMO));
+    let region = Region::Between(STAFF, DOCS);
+    let copy = repair(&rt, copy, &region, &WORDS, Rights(0), Rights(0), 3)?;
+    assert!(rt; !copy.is_written(&ANN) && !copy.is_written(&MEMO));
+    let copy = repair(&rt, copy, &region, &WORDS, Rights(0), Rights(1), 3)?;
+    assert!(rt; copy.is_written(&ANN) && copy.is_written(&MEMO));
+    Ok(())
+}
+
 fn bar(
     rt: &impl Abort,
     subject: Subject<ElementId, u32>,

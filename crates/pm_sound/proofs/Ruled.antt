@@ -1,17 +1,15 @@
 -- The rules as tests, and all rules together.
-use Rattle.std.proofs.Common.{◌≡◌, ◌↔◌, ◌&&◌, ◌||◌, ◌==◌, ◌++◌, ℕ, Bool, true, false, not, List, length, bytes_eq, refl, sym, ap, ◌∙◌}
+use Rattle.std.proofs.Common.{◌≡◌, ◌↔◌, ◌&&◌, ◌==◌, ◌++◌, ℕ, Bool, true, false, not, List, length, bytes_eq, refl}
 use Rattle.std.specs.List.{list_any, list_all}
 use Rattle.std.proofs.lemmas.Bool.{and_parts, and_from}
-use Rattle.pm_model.specs.Effect.{is_place_kind, may_assign, may_associate}
+use Rattle.pm_model.specs.Effect.{is_place_kind, may_associate}
 use Rattle.pm_model.specs.Formed.{Each}
 use Rattle.pm_model.specs.RightSet.{opening_rights}
-use Rattle.pm_model.specs.State.{is_class_kind}
 use Rattle.pm_model.specs.declared.prohibitions.Subject.{Subject}
 use Rattle.pm_model.specs.declared.prohibitions.Subject.TheVariants as subject
-use Rattle.pm_policy.specs.Policy.{called, is_assigned, standing}
-use Rattle.pm_policy.specs.Sound.{AreSound, FitAssigned, FitsSubject, HasContainer, IsAssociation, IsProhibition, IsSound, both, has_kind}
+use Rattle.pm_policy.specs.Policy.{called, standing}
+use Rattle.pm_policy.specs.Sound.{AreSound, FitsSubject, IsAssociation, IsProhibition, IsSound, both, has_kind}
 use Rattle.pm_policy.specs.declared.policy.DocElement.{DocElement}
-use Rattle.pm_policy.specs.declared.policy.DocAssignment.{DocAssignment}
 use Rattle.pm_policy.specs.declared.policy.DocAssociation.{DocAssociation}
 use Rattle.pm_policy.specs.declared.policy.DocProhibition.{DocProhibition}
 use Rattle.pm_policy.specs.declared.policy.Policy.{Policy}
@@ -20,11 +18,6 @@ use Rattle.pm_sound.specs.Tests.{are_places, are_rights, fits_association, fits_
 use Rattle.pm_sound.proofs.Told.{each-test, each-true}
 
 -- ---- tests
-
-pub kinds : (D : Policy) (es : List DocElement) (pairs : List DocAssignment) → es ≡ standing D.elements → pairs ≡ D.assignments →
-    (list_all (λ (pair : DocAssignment). both may_assign (called es pair.from) (called es pair.to)) pairs ≡ true) ↔ Each (FitAssigned (standing D.elements)) D.assignments
-kinds D es pairs stand same =
-    rw (stand, same) (each-true (λ (pair : DocAssignment). both may_assign (called (standing D.elements) pair.from) (called (standing D.elements) pair.to)) D.assignments)
 
 named : (rights names : List (List ℕ)) → (are_rights rights names ≡ true) ↔ Each (λ name. list_any (bytes_eq name) rights ≡ true) names
 named rights names = each-true (λ name. list_any (bytes_eq name) rights) names
@@ -99,14 +92,6 @@ module _ (D : Policy) (es : List DocElement) (rights : List (List ℕ)) (stand :
   pub prohibitions : (list : List DocProhibition) → list ≡ D.prohibitions → (list_all (fits_prohibition es rights) list ≡ true) ↔ Each (IsProhibition D) D.prohibitions
   prohibitions list same =
       rw (stand, named, same) (each-test (fits_prohibition (standing D.elements) (opening_rights ++ D.rights)) (IsProhibition D) (prohibition D) D.prohibitions)
-
--- the names of what is assigned
-pub contained : (names : List (List ℕ)) (pairs : List DocAssignment) (es : List DocElement) →
-    ((name : List ℕ) → list_any (bytes_eq name) names ≡ list_any (is_assigned name) pairs) →
-    (list_all (λ (e : DocElement). is_class_kind e.kind || list_any (bytes_eq e.name) names) es ≡ true) ↔ Each (HasContainer pairs) es
-contained names pairs es same = each-test (λ (e : DocElement). is_class_kind e.kind || list_any (bytes_eq e.name) names) (HasContainer pairs) one es where
-  one : (e : DocElement) → ((is_class_kind e.kind || list_any (bytes_eq e.name) names) ≡ true) ↔ HasContainer pairs e
-  one e = let also = ap (λ b. is_class_kind e.kind || b) (same e.name) in (λ h. sym also ∙ h, λ h. also ∙ h)
 
 -- ---- all rules together
 

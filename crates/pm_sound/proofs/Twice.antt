@@ -1,5 +1,5 @@
 -- Lists in which no two items are alike, from the first item on.
-use Rattle.std.proofs.Common.{◌≡◌, ◌<◌, ◌+◌, ◌||◌, ℕ, Bool, true, false, not, List, [], ◌∷◌, ◌++◌, length, map, take, drop, get_or, suc, refl, sym, ap, ◌∙◌, bytes_eq, arith, if◌then◌else◌}
+use Rattle.std.proofs.Common.{◌≡◌, ◌<◌, ◌+◌, ◌||◌, ℕ, Bool, true, false, not, List, [], ◌∷◌, ◌++◌, length, map, take, drop, get_or, suc, refl, sym, ap, ◌∙◌, bytes_eq, arith}
 use Rattle.std.specs.List.{list_any}
 use Rattle.std.specs.Cmp.{IsEquivalence}
 use Rattle.std.proofs.lemmas.Bool.{or_parts}
@@ -11,9 +11,7 @@ use Rattle.std.proofs.lemmas.List.Elements.{Contains-append_right}
 use Rattle.indexmap.specs.IndexSet.{insert_key}
 use Rattle.pm_laws.proofs.Items.{contains-first, none-at}
 use Rattle.pm_model.specs.Formed.{NameOnce}
-use Rattle.pm_policy.specs.Policy.{is_assigned}
 use Rattle.pm_policy.specs.Sound.{AreOnce}
-use Rattle.pm_policy.specs.declared.policy.DocAssignment.{DocAssignment}
 use Rattle.pm_policy.proofs.Ordered.{same-name}
 
 or_none : (b : Bool) → (b || false) ≡ b
@@ -95,22 +93,3 @@ was-seen added false is h = absurd (cc)
 pub was-new : (added seen : Bool) → added ≡ not seen → added ≡ true → seen ≡ false
 was-new added true is h = absurd (cc)
 was-new added false is h = refl
-
--- ---- names of what is assigned
-
--- a name more in the set
-pub named-more : (names : List (List ℕ)) (pairs : List DocAssignment) (p : DocAssignment) →
-    ((name : List ℕ) → list_any (bytes_eq name) names ≡ list_any (is_assigned name) pairs) →
-    (name : List ℕ) → list_any (bytes_eq name) (insert_key bytes_eq names p.from) ≡ list_any (is_assigned name) (pairs ++ p ∷ [])
-named-more names pairs p same name = of (list_any (bytes_eq p.from) names) refl where
-  more : (list_any (bytes_eq name) names || bytes_eq name p.from) ≡ list_any (is_assigned name) (pairs ++ p ∷ [])
-  more = ap (λ b. b || bytes_eq name p.from) (same name) ∙ sym (any-push (is_assigned name) pairs p)
-
-  within : (b : Bool) → list_any (bytes_eq p.from) names ≡ true → bytes_eq name p.from ≡ b → (list_any (bytes_eq name) names || b) ≡ list_any (bytes_eq name) names
-  within true there is = rw (same-name name p.from is, there) refl
-  within false there is = or_none (list_any (bytes_eq name) names)
-
-  of : (b : Bool) → list_any (bytes_eq p.from) names ≡ b →
-      list_any (bytes_eq name) (if b then names else names ++ p.from ∷ []) ≡ list_any (is_assigned name) (pairs ++ p ∷ [])
-  of true there = sym (within (bytes_eq name p.from) there refl) ∙ more
-  of false there = any-push (bytes_eq name) names p.from ∙ more

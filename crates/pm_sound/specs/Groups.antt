@@ -5,7 +5,9 @@ use Rattle.pm_model.specs.Effect.{max_elements, max_assignments, max_association
 use Rattle.pm_model.specs.Formed.{Each, NameOnce}
 use Rattle.pm_model.specs.Prohibitions.{max_prohibitions}
 use Rattle.pm_model.specs.RightSet.{command_words, max_rights, opening_rights}
-use Rattle.pm_policy.specs.Sound.{AreOnce, IsAssociation, IsProhibition, has_ends}
+use Rattle.pm_policy.specs.Sound.{AreOnce, FitAssigned, HasContainer, IsAcyclic, IsAssociation, IsProhibition, has_ends}
+use Rattle.pm_policy.specs.declared.policy.DocAssignment.{DocAssignment}
+use Rattle.pm_policy.specs.declared.policy.DocElement.{DocElement}
 use Rattle.pm_policy.specs.declared.policy.DocProhibition.{DocProhibition}
 use Rattle.pm_policy.specs.declared.policy.Policy.{Policy}
 
@@ -15,6 +17,12 @@ pub record AreFew (D : Policy) : Type 0 where
   pub assignments : length D.assignments + 2 ≤ max_assignments
   pub associations : length D.associations ≤ max_associations
   pub prohibitions : length D.prohibitions ≤ max_prohibitions
+
+-- the rules of all assignments that stand, of all elements that stand, but that none stands twice
+pub record AreTied (es : List DocElement) (pairs : List DocAssignment) : Type 0 where
+  pub kinds : Each (FitAssigned es) pairs
+  pub contained : Each (HasContainer pairs) es
+  pub acyclic : IsAcyclic pairs
 
 -- one more right, where these are
 pub record IsFree (rights : List (List ℕ)) (name : List ℕ) : Type 0 where

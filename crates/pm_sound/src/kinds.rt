@@ -1,10 +1,12 @@
 //! Which kinds may be assigned, associated and prohibited, of elements found by name.
 
-ghost use Rattle.std.specs.Prelude.{◌≡◌};
+ghost use Rattle.std.specs.Prelude.{◌≡◌, IfSome};
 ghost use Rattle.std.specs.List.{list_all};
+ghost use Rattle.std.specs.Option.{is_some};
 ghost use Rattle.pm_model.specs.Effect.{is_place_kind, is_ua_kind, is_user_kind, may_assign, may_associate};
+ghost use Rattle.pm_order.specs.Ranked.{place};
 ghost use Rattle.pm_policy.specs.Policy.{called};
-ghost use Rattle.pm_policy.specs.Sound.{both, has_kind};
+ghost use Rattle.pm_policy.specs.Sound.{both, has_kind, AreOnceCalled};
 ghost use Rattle.pm_sound.specs.Tests.{are_places, is_subject};
 
 use crate::standing::Standing;
@@ -31,13 +33,23 @@ fn may_associate(ua: Kind, at: Kind) -> bool
     }
 }
 
-/// Whether both ends stand, and are of kinds that may be assigned.
-pub(crate) fn may_stand(standing: &Standing, pair: &DocAssignment) -> bool
-    ensures { result ≡ both may_assign (called standing.now pair.now.from) (called standing.now pair.now.to) }
+/// The places of both ends, where these stand and are of kinds that may be assigned. The first end is looked for at a likely
+/// place first.
+pub(crate) fn ends(
+    standing: &Standing,
+    pair: &DocAssignment,
+    likely: usize,
+) -> Option<(usize, usize)>
+    requires { AreOnceCalled standing.now }
+    ensures fit { is_some result ≡ both may_assign (called standing.now pair.now.from) (called standing.now pair.now.to) }
+    ensures places { IfSome result (λ ends. (ends.0 ≡ place standing.now pair.now.from) × (ends.1 ≡ place standing.now pair.now.to)) }
 {
-    match (standing.find(&pair.from), standing.find(&pair.to)) {
-        (Some(x), Some(y)) => may_assign(x.kind, y.kind),
-        _ => false,
+    match (
+        standing.place_near(&pair.from, likely),
+        standing.place(&pair.to),
+    ) {
+        (Some((from, x)), Some((to, y))) if may_assign(x, y) => Some((from, to)),
+        _ => None,
     }
 }
 

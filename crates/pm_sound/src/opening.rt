@@ -1,9 +1,8 @@
-//! The elements and assignments of the opening, with those of a document behind them.
+//! The elements of the opening, with those of a document behind them, and its assignments.
 
-ghost use Rattle.std.specs.Prelude.{◌≡◌, ◌++◌, true, IfOk};
+ghost use Rattle.std.specs.Prelude.{◌≡◌, true, IfOk};
 ghost use Rattle.pm_model.specs.Name.{is_name};
 ghost use Rattle.pm_policy.specs.Policy.{assignment, doc_element, standing};
-ghost use Rattle.pm_policy.specs.Sound.{opening_pairs};
 
 use pm_model::{Kind, Memory, Name};
 use pm_policy::{DocAssignment, DocElement};
@@ -26,7 +25,8 @@ fn element(kind: Kind, text: &str) -> DocElement
     }
 }
 
-fn assignment(from: &str, to: &str) -> DocAssignment
+/// An assignment of the opening.
+pub(crate) fn assignment(from: &str, to: &str) -> DocAssignment
     requires from { is_name from.now ≡ true }
     requires to { is_name to.now ≡ true }
     ensures { result ≡ assignment from.now to.now }
@@ -49,19 +49,5 @@ pub(crate) fn all_elements(
     all.push(element(Kind::Ua, "pm_admins"))?;
     all.push(element(Kind::User, "root"))?;
     all.extend_from_slice(elements)?;
-    Ok(all)
-}
-
-/// The opening's assignments and these behind them.
-pub(crate) fn all_assignments(
-    alloc: Global,
-    pairs: &[DocAssignment],
-) -> Result<Vec<DocAssignment>, Memory>
-    ensures { IfOk result (λ all. all.items ≡ opening_pairs ++ pairs.now) }
-{
-    let mut all = Vec::new(alloc);
-    all.push(assignment("pm_admins", "pm"))?;
-    all.push(assignment("root", "pm_admins"))?;
-    all.extend_from_slice(pairs)?;
     Ok(all)
 }

@@ -2,29 +2,20 @@
 
 ghost use Rattle.std.specs.Prelude.{◌≡◌, ◌++◌, not, ◌&&◌, ◌==◌, length};
 ghost use Rattle.std.specs.List.{list_all};
-ghost use Rattle.pm_model.specs.Effect.{may_assign};
-ghost use Rattle.pm_policy.specs.Policy.{called, opening_docs};
-ghost use Rattle.pm_policy.specs.Sound.{both};
+ghost use Rattle.pm_policy.specs.Policy.{opening_docs};
 ghost use Rattle.pm_model.specs.RightSet.{opening_rights};
 ghost use Rattle.pm_sound.specs.Groups.{AreRuled};
 ghost use Rattle.pm_sound.specs.Tells.{Tells};
 ghost use Rattle.pm_sound.specs.Tests.{fits_association, fits_prohibition};
 
 use crate::errors::{SoundError, need};
-use crate::kinds::{are_places, is_subject, may_join, may_stand};
-use crate::once::check_once;
+use crate::kinds::{are_places, is_subject, may_join};
+use crate::once::{check_associated_once, check_once};
 use crate::rights::are_rights;
 use crate::standing::Standing;
-use pm_policy::{DocAssignment, DocAssociation, DocProhibition, Policy};
+use pm_policy::{DocAssociation, DocProhibition, Policy};
 use pm_rights::RightNames;
 use std::alloc::Global;
-
-/// Whether both ends of each assignment stand, and are of kinds that may be assigned.
-pub(crate) fn all_may_stand(standing: &Standing, pairs: &[DocAssignment]) -> bool
-    ensures { result ≡ list_all (λ pair. both may_assign (called standing.now pair.from) (called standing.now pair.to)) pairs.now }
-{
-    pairs.iter().all(|pair| may_stand(standing, pair))
-}
 
 fn fits_association(standing: &Standing, rights: &RightNames, association: &DocAssociation) -> bool
     ensures { result ≡ fits_association standing.now rights.now association.now }
@@ -83,6 +74,6 @@ pub(crate) fn check_rules(
     let prohibitions = policy.prohibitions.as_slice();
     need(all_associations_fit(standing, rights, associations))?;
     need(all_prohibitions_fit(standing, rights, prohibitions))?;
-    check_once(alloc, associations)?;
+    check_associated_once(alloc, associations)?;
     check_once(alloc, prohibitions)
 }

@@ -1,20 +1,19 @@
 //! Whether a policy is sound.
 
-ghost use Rattle.std.specs.Prelude.{◌≡◌, ◌↔◌, ◌++◌, true, IfOk};
+ghost use Rattle.std.specs.Prelude.{◌≡◌, ◌↔◌, true, IfOk};
 ghost use Rattle.pm_policy.specs.Policy.{standing};
-ghost use Rattle.pm_policy.specs.Sound.{AreOnceAssigned, AreOnceCalled, AreSound, IsAcyclic, IsSound, opening_pairs};
-ghost use Rattle.pm_policy.specs.Waiting.{AreKnown};
+ghost use Rattle.pm_policy.specs.Sound.{AreSound, IsSound};
 ghost use Rattle.pm_sound.specs.Groups.{AreFew};
 ghost use Rattle.pm_sound.specs.Tells.{Tells};
 
 use crate::errors::{SoundError, need};
-use crate::once::check_once;
-use crate::opening::{all_assignments, all_elements};
-use crate::order::{check_acyclic, check_contained};
+use crate::once::check_assigned_once;
+use crate::opening::all_elements;
+use crate::order::check_ties;
 use crate::rights::defined;
-use crate::rules::{all_may_stand, check_rules};
+use crate::rules::check_rules;
 use crate::standing::Standing;
-use pm_policy::{DocAssignment, DocElement, Policy};
+use pm_policy::Policy;
 use std::alloc::Global;
 
 // How many of each a state may have, and how many stand from the opening on.
@@ -39,21 +38,6 @@ fn are_few(policy: &Policy) -> bool
         && policy.prohibitions.len() <= MAX_PROHIBITIONS
 }
 
-/// Whether with those of the opening none of the assignments stands twice, and they have no cycle.
-fn check_assignments(
-    alloc: Global,
-    elements: &[DocElement],
-    pairs: &[DocAssignment],
-) -> Result<(), SoundError>
-    requires once { AreOnceCalled elements.now }
-    requires known { AreKnown (opening_pairs ++ pairs.now) elements.now }
-    ensures { Tells result (AreOnceAssigned (opening_pairs ++ pairs.now) × IsAcyclic (opening_pairs ++ pairs.now)) }
-{
-    let all = all_assignments(alloc, pairs)?;
-    check_once(alloc, all.as_slice())?;
-    check_acyclic(alloc, elements, all.as_slice())
-}
-
 /// The rules of elements and assignments, where there are few enough. Ok has the elements that stand.
 fn check_elements(alloc: Global, policy: &Policy) -> Result<Standing, SoundError>
     requires { AreFew policy.now }
@@ -63,9 +47,8 @@ fn check_elements(alloc: Global, policy: &Policy) -> Result<Standing, SoundError
     let pairs = policy.assignments.as_slice();
     let elements = all_elements(alloc, policy.elements.as_slice())?;
     let standing = Standing::of(alloc, elements.as_slice())?;
-    need(all_may_stand(&standing, pairs))?;
-    check_assignments(alloc, elements.as_slice(), pairs)?;
-    check_contained(alloc, policy.elements.as_slice(), pairs)?;
+    check_assigned_once(alloc, pairs)?;
+    check_ties(alloc, &standing, elements.as_slice(), pairs)?;
     Ok(standing)
 }
 

@@ -1,8 +1,9 @@
 //! The elements that stand once a document is made, found by name.
 
-ghost use Rattle.std.specs.Prelude.{◌≡◌, [], ◌∷◌, ◌++◌, false, IfOk};
+ghost use Rattle.std.specs.Prelude.{◌≡◌, [], ◌∷◌, ◌++◌, false, length, option_map, slice_get, Some, IfOk, IfSome};
+ghost use Rattle.pm_order.specs.Ranked.{place};
 ghost use Rattle.pm_policy.specs.Order.{is_made};
-ghost use Rattle.pm_policy.specs.Policy.{called};
+ghost use Rattle.pm_policy.specs.Policy.{called, doc_element};
 ghost use Rattle.pm_policy.specs.Sound.{AreOnceCalled};
 ghost use Rattle.pm_sound.specs.Tells.{Tells};
 
@@ -47,6 +48,50 @@ impl Standing {
             }),
             None => None,
         }
+    }
+
+    /// The place of the element of the name, from 0 on, and its kind.
+    pub(crate) fn place(&self, name: &Name) -> Option<(usize, Kind)>
+        ensures kind { option_map (λ found. doc_element found.1 name.now) result ≡ called self.now name.now }
+        ensures place { IfSome result (λ found. found.0 ≡ place self.now name.now) }
+    {
+        match self.kinds.get_full(name) {
+            Some((place, _, kind)) => Some((place, *kind)),
+            None => None,
+        }
+    }
+
+    /// The kind of the element at a place, where it has the name.
+    fn kind_at(&self, place: usize, name: &Name) -> Option<Kind>
+        ensures { IfSome result (λ kind. slice_get self.now place ≡ Some (doc_element kind name.now)) }
+    {
+        match self.kinds.get_index(place) {
+            Some((there, kind)) if there == name => Some(*kind),
+            _ => None,
+        }
+    }
+
+    /// The same as `place`, which is told faster where it is the likely place, or the next.
+    pub(crate) fn place_near(&self, name: &Name, likely: usize) -> Option<(usize, Kind)>
+        requires { AreOnceCalled self.now }
+        ensures kind { option_map (λ found. doc_element found.1 name.now) result ≡ called self.now name.now }
+        ensures place { IfSome result (λ found. found.0 ≡ place self.now name.now) }
+    {
+        if let Some(kind) = self.kind_at(likely, name) {
+            return Some((likely, kind));
+        }
+        let next = likely.saturating_add(1);
+        if let Some(kind) = self.kind_at(next, name) {
+            return Some((next, kind));
+        }
+        self.place(name)
+    }
+
+    /// How many elements there are.
+    pub(crate) fn len(&self) -> usize
+        ensures { result ≡ length self.now }
+    {
+        self.kinds.len()
     }
 
     /// Puts an element behind the others, or in the place of one that has its name: tells whether there was one.

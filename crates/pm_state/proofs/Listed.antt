@@ -1,5 +1,5 @@
 -- Lists that stand beside a graph: none at the opening, and with the changes that make none up.
-use Rattle.std.proofs.Common.{◌≡◌, ◌<◌, ℕ, Bool, true, false, List, [], length, Option, Some, None, IfSome, Ok, inl, inr, slice_get, slice_set, refl, sym, ◌∙◌, ap, subst, arith}
+use Rattle.std.proofs.Common.{◌≡◌, ◌<◌, ℕ, Bool, true, false, List, [], length, Option, Some, None, IfSome, IsSomeAnd, Ok, inl, inr, slice_get, slice_set, refl, sym, ◌∙◌, ap, subst, arith}
 use Rattle.std.specs.List.{list_any}
 use Rattle.std.proofs.lemmas.Option.{slice_get_cases}
 use Rattle.pm_model.specs.State.{Graph}
@@ -14,9 +14,11 @@ use Rattle.pm_model.specs.declared.reviews.Pair.{Pair}
 use Rattle.pm_model.specs.declared.reviews.ReviewOf.{ReviewOf}
 use Rattle.pm_model.specs.declared.reviews.ReviewOf.TheVariants.{Caps, Entries}
 use Rattle.pm_laws.proofs.Checks.{unless-ok}
-use Rattle.pm_affect.specs.Lists.{Lists, list_in}
+use Rattle.pm_affect.specs.Lists.{Lists, all_copied, list_in, was_in}
+use Rattle.pm_affect.specs.Right.{WereLists}
+use Rattle.pm_affect.proofs.Were.{copied-in, found-were}
 use Rattle.pm_state.specs.Listing.{AreListed, keeps, kept_list}
-use Rattle.pm_state.specs.Repairs.{IsAsked, IsDue, is_of_reviews}
+use Rattle.pm_state.specs.Repairs.{IsAsked, IsDue, KeepsWere, is_of_reviews}
 use Rattle.pm_state.specs.declared.repairs.Repair.{Repair}
 use Rattle.pm_state.proofs.LastSet.{last_set, any-set}
 
@@ -142,6 +144,26 @@ if-due old lists G H c asked f named made is same are = of lists (subst (λ (o :
   of : (o : Option Lists) → IfSome o (λ (L : Lists). AreListed L G) → IfSome o (λ (L : Lists). IsDue L H asked)
   of None are = tt
   of (Some L) are = record { before = G; change = c; formed = f; named = named; led = made; listed = are; asked = is }
+
+pub if-were : (old taken lists : Option Lists) (G : Graph) → taken ≡ old → IfSome old (λ (L : Lists). WereLists G L) →
+    IfSome lists (λ (M : Lists). IsSomeAnd taken (λ (L : Lists). KeepsWere L M)) → IfSome lists (λ (M : Lists). WereLists G M)
+if-were None taken None G same are keeps = tt
+if-were None taken (Some M) G same are keeps = absurd (rw same at keeps)
+if-were (Some L) taken None G same are keeps = tt
+if-were (Some L) taken (Some M) G same are keeps = let stays : KeepsWere L M = rw same at keeps in stays G are
+
+-- ---- copies
+
+pub copied-listed : (L : Lists) (G : Graph) → AreListed L G → AreListed (all_copied L) G
+copied-listed L G are of = copied-in L of ∙ are of
+
+-- a list that is what it was, when it was the graph's that was before
+pub list-stays : (L : Lists) (G H : Graph) (of : ReviewOf ℕ) → AreListed L H → list_any (is_kept_of of) H.kept ≡ true → WereLists G L →
+    was_in L of ≡ list_in L of → list_of G of ≡ list_of H of
+list-stays L G H of are kept were same =
+    let there : was_in L of ≡ Some (list_of H of) = same ∙ are of ∙ kept-listed H of kept in
+    let was : list_of H of ≡ list_of G of = subst (λ (o : Option (List Pair)). IfSome o (λ (ps : List Pair). ps ≡ list_of G of)) there (found-were G of L were) in
+    sym was
 
 -- ---- what is found of a kept review is its list
 

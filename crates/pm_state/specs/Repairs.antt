@@ -11,6 +11,7 @@ use Rattle.pm_model.specs.declared.requests.Change.TheVariants.{Keep, DropReview
 use Rattle.pm_affect.specs.Affected.{region_of}
 use Rattle.pm_affect.specs.Lists.{Lists}
 use Rattle.pm_affect.specs.Counting.{capped, judged_for}
+use Rattle.pm_affect.specs.Right.{WereLists}
 use Rattle.pm_state.specs.Drafted.{Drafted}
 use Rattle.pm_state.specs.Listing.{AreListed}
 use Rattle.pm_state.specs.declared.repairs.Repair.{Repair}
@@ -51,6 +52,10 @@ pub record IsDue (L : Lists) (H : Graph) (repair : Repair) : Type 0 where
 -- the lists have been charged for what the change asked
 abbrev pub IsCharged : Lists → Lists → Graph → Repair → Type 0
 IsCharged L M H repair = (due : IsDue L H repair) → M.asked ≡ capped (L.asked + judged_for due.before due.change)
+
+-- where lists were those of a graph when they were last copied, what came of them were so too
+abbrev pub KeepsWere : Lists → Lists → Type 0
+KeepsWere L M = (G : Graph) → WereLists G L → WereLists G M
 
 -- what an error leaves: a refusal the draft as it was; want of memory the draft as it was, or changed and without its lists
 abbrev pub IsLeft : Drafted → Drafted → Change → ChangeError → Type 0

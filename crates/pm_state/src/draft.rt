@@ -8,6 +8,7 @@ ghost use Rattle.pm_model.specs.KeptReviews.{KeptReview, is_kept_of};
 ghost use Rattle.pm_model.specs.Made.{made_by};
 ghost use Rattle.pm_model.specs.Reviews.{list_of};
 ghost use Rattle.pm_affect.specs.Counting.{Work, capped, work_for, work_in};
+ghost use Rattle.pm_affect.specs.Right.{WereLists};
 ghost use Rattle.pm_state.specs.Drafted.{done_in, machine_in};
 ghost use Rattle.pm_state.specs.Leaving.{AreNamesKept};
 ghost use Rattle.pm_state.specs.Listing.{AreListed};
@@ -66,6 +67,7 @@ impl Draft {
         requires replayed { IsReplayed (record { graph = graph; history = history.entries }) }
         requires limit { history.limit ≡ longest_history }
         requires listed { AreListed lists graph }
+        requires were { WereLists graph lists }
         ensures { result ≡ record { graph = graph; history = history.entries; asked = lists.asked; written = rows; whole = true } }
     {
         Draft {
@@ -112,6 +114,18 @@ impl Draft {
         match self.lists()?.list(of) {
             Some(list) => Ok(list),
             None => unreachable!(),
+        }
+    }
+
+    /// Whether it is known, without a look at any pair, that a review that is kept answers what it did before the draft's first
+    /// change: its list was there then, and no repair has written to it.
+    pub fn keeps_list(&self, of: &ReviewOf<ElementId>) -> bool
+        requires { list_any (is_kept_of of.now) self.now.graph.kept ≡ true }
+        ensures { result ≡ true → list_of (replay self.now.history).graph of.now ≡ list_of self.now.graph of.now }
+    {
+        match &self.lists {
+            Some(lists) => !lists.is_written(of),
+            None => false,
         }
     }
 

@@ -7,7 +7,7 @@ ghost use Rattle.pm_affect.specs.Lists.{Lists};
 ghost use Rattle.pm_state.specs.Leaving.{LeavesReviews, alters, deletes};
 ghost use Rattle.pm_state.specs.Listing.{AreListed, keeps};
 ghost use Rattle.pm_affect.specs.Counting.{judged_for};
-ghost use Rattle.pm_state.specs.Repairs.{IsAsked, IsCharged, IsDue, is_less};
+ghost use Rattle.pm_state.specs.Repairs.{IsAsked, IsCharged, IsDue, KeepsWere, is_less};
 
 use crate::asking::{list_of, live_elements, live_users};
 use crate::graph::Graph;
@@ -126,6 +126,7 @@ fn judge_again(lists: KeptLists, graph: &Graph, region: &Region) -> Result<KeptL
     requires { IsDue lists graph.now (Repair.Within region.now) }
     ensures listed { IfOk result (λ (M : Lists). AreListed M graph.now) }
     ensures charged { IfOk result (λ (M : Lists). IsCharged lists M graph.now (Repair.Within region.now)) }
+    ensures were { IfOk result (λ (M : Lists). KeepsWere lists M) }
 {
     graph.formed();
     lists.kept();
@@ -147,6 +148,7 @@ fn repair_within(lists: KeptLists, graph: &Graph, region: &Region) -> Result<Kep
     requires { IsDue lists graph.now (Repair.Within region.now) }
     ensures listed { IfOk result (λ (M : Lists). AreListed M graph.now) }
     ensures charged { IfOk result (λ (M : Lists). IsCharged lists M graph.now (Repair.Within region.now)) }
+    ensures were { IfOk result (λ (M : Lists). KeepsWere lists M) }
 {
     lists.kept();
     if graph.kept().is_empty() {
@@ -164,6 +166,7 @@ fn insert(mut lists: KeptLists, graph: &Graph, of: ReviewOf<ElementId>) -> Resul
     requires { IsDue lists graph.now (Repair.More of) }
     ensures listed { IfOk result (λ (M : Lists). AreListed M graph.now) }
     ensures charged { IfOk result (λ (M : Lists). IsCharged lists M graph.now (Repair.More of)) }
+    ensures were { IfOk result (λ (M : Lists). KeepsWere lists M) }
 {
     lists.kept();
     graph.formed();
@@ -179,6 +182,7 @@ fn made_up(mut lists: KeptLists, graph: &Graph, asked: Repair) -> Result<KeptLis
     requires { IsDue lists graph.now asked }
     ensures listed { IfOk result (λ (M : Lists). AreListed M graph.now) }
     ensures charged { IfOk result (λ (M : Lists). IsCharged lists M graph.now asked) }
+    ensures were { IfOk result (λ (M : Lists). KeepsWere lists M) }
     ensures free { is_less asked ≡ true → IsOk result }
 {
     lists.kept();
@@ -197,6 +201,7 @@ pub(crate) fn repaired(lists: Option<KeptLists>, graph: &Graph, asked: Repair) -
     requires { IfSome lists (λ (L : Lists). IsDue L graph.now asked) }
     ensures listed { IfSome result (λ (L : Lists). AreListed L graph.now) }
     ensures charged { IfSome result (λ (M : Lists). IsSomeAnd lists (λ (L : Lists). IsCharged L M graph.now asked)) }
+    ensures were { IfSome result (λ (M : Lists). IsSomeAnd lists (λ (L : Lists). KeepsWere L M)) }
     ensures free { is_less asked ≡ true → IsSome lists → IsSome result }
 {
     match made_up(lists?, graph, asked) {

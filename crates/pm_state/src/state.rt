@@ -244,7 +244,7 @@ impl State {
         self.history.share()
     }
 
-    /// The same state once more. What is shared takes a pointer for each page, a list of a kept review takes one, and the rest
+    /// The same state once more. What is shared takes a pointer for each page, a list of a kept review takes two, and the rest
     /// is copied: so `share` comes first.
     pub fn copy(&self) -> Result<State, Memory>
         ensures { IfOk result (λ same. same ≡ self.now) }
@@ -264,6 +264,7 @@ impl State {
     pub fn draft(&self) -> Result<Draft, Memory>
         ensures { IfOk result (λ d. d ≡ record { graph = self.now.graph; history = self.now.history; asked = capped (work_in Judged self.now.history); written = capped (work_in Written self.now.history); whole = true }) }
     {
+        self.lists.kept();
         let graph = self.graph.copy()?;
         let lists = self.lists.copy()?;
         let history = self.history.copy()?;

@@ -1,12 +1,15 @@
 -- The kept reviews settled one after another.
-use Rattle.std.proofs.Common.{◌≡◌, ◌≤◌, ◌<◌, ◌+◌, ℕ, zero, suc, Bool, true, false, List, [], ◌∷◌, length, map, Option, Some, None, option_map, is_some, IsTrue, inl, inr, slice_get, slice_set, refl, sym, ◌∙◌, ap, subst, arith}
+use Rattle.std.proofs.Common.{◌≡◌, ◌≤◌, ◌<◌, ◌+◌, ◌==◌, ℕ, zero, suc, Bool, true, false, if◌then◌else◌, List, [], ◌∷◌, length, map, filter, bytes_eq, eq-eqb, Option, Some, None, option_map, is_some, IsTrue, inl, inr, slice_get, slice_set, refl, sym, ◌∙◌, ap, subst, arith}
 use Rattle.std.specs.List.{list_any}
-use Rattle.std.proofs.lemmas.List.Elements.{All-weaker}
+use Rattle.std.proofs.lemmas.Bool.{cond_both, eqb-true}
+use Rattle.std.proofs.lemmas.List.Elements.{All-head, All-tail, All-weaker}
 use Rattle.std.proofs.lemmas.Option.{same_Some, slice_get_cases}
+use Rattle.std.proofs.lemmas.Slice.Eq.{bytes_eq-Decides}
 use Rattle.pm_model.specs.History.{IsReplayed, Machine, replay}
 use Rattle.pm_model.specs.State.{Graph, State, element_at, name_numbered}
 use Rattle.pm_model.specs.KeptReviews.{KeptReview, is_kept_as, is_kept_of, kept_at}
-use Rattle.pm_model.specs.LastChanges.{changes_in, with_last, settled_review, with_changes}
+use Rattle.pm_model.specs.LastChanges.{changed, changes_below, changes_between, changes_in, differs, rights_listed, with_last, settled_review, with_changes}
+use Rattle.pm_model.specs.Reviews.{list_of}
 use Rattle.pm_model.specs.declared.requests.Entry.{Entry}
 use Rattle.pm_model.specs.declared.reviews.Changed.{Changed}
 use Rattle.pm_model.specs.declared.reviews.Pair.{Pair}
@@ -29,6 +32,42 @@ names-alike M D list replayed same kept named =
     let names : AreNamesKept M.graph D.graph = subst (λ (G : Graph). AreNamesKept G D.graph) began kept in
     All-weaker (λ (p : Pair). IsTrue (is_some (element_at M.graph.elements p.element)))
     (λ (p : Pair). name_numbered M.graph.elements p.element ≡ name_numbered D.graph.elements p.element) (λ p live. sym (names.names p.element live)) list named
+
+-- ---- lists that are the same
+
+-- tell of no change, where the elements in them have kept their names
+module _ (was is : ℕ → List ℕ) where
+  -- an element with these rights in both
+  abbrev IsUnchanged : ℕ → ℕ → Type 0
+  IsUnchanged n r =
+      filter differs (if bytes_eq (was n) (is n) then changed (is n) r r ∷ [] else changed (was n) r 0 ∷ changed (is n) 0 r ∷ []) ≡ []
+
+  unchanged-at : (n : ℕ) (ps : List Pair) → AllAlike was is ps → IsUnchanged n (rights_listed ps n)
+  unchanged-at n [] alike =
+      cond_both (bytes_eq (was n) (is n)) (changed (is n) 0 0 ∷ []) (changed (was n) 0 0 ∷ changed (is n) 0 0 ∷ [])
+      (λ (l : List Changed). filter differs l ≡ []) (λ yes. refl) (λ no. refl)
+  unchanged-at n (p ∷ ps) alike = by (unchanged-at n ps (All-tail (λ (p : Pair). was p.element ≡ is p.element) p ps alike)) (p.element == n) refl where
+    by : IsUnchanged n (rights_listed ps n) → (b : Bool) → (p.element == n) ≡ b → IsUnchanged n (rights_listed (p ∷ ps) n)
+    by rest true here =
+        let named : was n ≡ is n = rw (eqb-true p.element n here) at (All-head (λ (p : Pair). was p.element ≡ is p.element) p ps alike) in
+        rw (here, named, (bytes_eq-Decides (is n) (is n)).1 refl, eq-eqb p.rights p.rights refl) refl
+    by rest false other = rw other rest
+
+  unchanged-below : (n : ℕ) (ps : List Pair) → AllAlike was is ps → changes_below was is ps ps n ≡ []
+  unfolding changes_below
+  unchanged-below zero ps alike = refl
+  unchanged-below (suc n) ps alike = rw (unchanged-below n ps alike, unchanged-at n ps alike) refl
+
+  pub same-unchanged : (old new : List Pair) → old ≡ new → AllAlike was is old → changes_between was is old new ≡ []
+  same-unchanged old new same alike =
+      subst (λ (l : List Pair). changes_between was is old l ≡ []) same (unchanged-below _ old alike)
+
+-- what a review answered in the state that a draft began from
+pub same-as-before : (M : Machine) (D : Drafted) (of : ReviewOf ℕ) → IsReplayed M → D.history ≡ M.history →
+    list_of (replay D.history).graph of ≡ list_of D.graph of → list_of M.graph of ≡ list_of D.graph of
+same-as-before M D of replayed same stays =
+    let began : (replay D.history).graph ≡ M.graph = ap (λ (h : List Entry). (replay h).graph) same ∙ ap (λ (S : State). S.graph) replayed.content in
+    subst (λ (G : Graph). list_of G of ≡ list_of D.graph of) began stays
 
 -- ---- one of them
 

@@ -11,8 +11,8 @@ use pm_model::{ChangeList, ElementId, Memory, ReviewOf};
 use pm_review::{changes, changes_of_rights, lists_rise};
 use pm_state::{Draft, Graph, State};
 
-// What differs in the list of a review that is kept in both. Names are asked for of all elements in it only where one was
-// deleted in the draft.
+// What differs in the list of a review that is kept in both. Where no element was deleted in the draft, a list that no repair has
+// written to isn't looked at, and in others names are asked for only of what has changed.
 fn changes_in(before: &State, draft: &Draft, of: &ReviewOf<ElementId>) -> Result<ChangeList, Memory>
     requires before { list_any (is_kept_of of.now) before.now.graph.kept ≡ true }
     requires after { list_any (is_kept_of of.now) draft.now.graph.kept ≡ true }
@@ -28,6 +28,9 @@ fn changes_in(before: &State, draft: &Draft, of: &ReviewOf<ElementId>) -> Result
     let was = before.graph();
     let is = draft.graph();
     if draft.keeps_names() {
+        if draft.keeps_list(of) {
+            return Ok(ChangeList::new(old.allocator()));
+        }
         return changes_of_rights(was, is, old, new);
     }
     changes(was, is, old, new)
@@ -76,9 +79,9 @@ fn settle_at(before: &State, draft: &mut Draft, place: usize, version: u64) -> R
 }
 
 /// Gives each kept review of the draft its last change, where the entry of this version has changed its list since this
-/// state, from which the draft began. The lists that stand in the state and in the draft are compared: that costs their
-/// lengths, and asks for no rights, and for names only of what has changed, unless an element was deleted. On Memory some
-/// reviews may have theirs, and the draft can't be used.
+/// state, from which the draft began. The lists that were written to since are compared with those of the state: that costs their
+/// lengths, and asks for no rights, and for names only of what has changed. Where an element was deleted, all are, and their names are
+/// asked for. On Memory some reviews may have theirs, and the draft can't be used.
 pub(crate) fn settle_reviews(before: &State, draft: &mut Draft, version: u64) -> Result<(), Memory>
     requires { draft.old.history ≡ before.now.history }
     ensures ok { OnOk result (draft.new.graph ≡ reviews_settled before.now.graph version draft.old.graph) }

@@ -1,15 +1,12 @@
-use Rattle.std.proofs.Common.{◌∙◌, ap, arith}
-use Rattle.pm_affect.specs.Lists.{Lists, subjects}
-use Rattle.pm_affect.proofs.Walk.{rights-caps, row-more}
+use Rattle.std.proofs.Common.{◌≡◌, ◌∙◌}
+use Rattle.pm_affect.specs.Puts.{judged_pairs, with_row}
+use Rattle.pm_affect.proofs.Walk.{row_put}
 use Rattle.pm_affect.proofs.repair.judge_row.Goals as goal
 
-pub loop-n-preserved : goal.loop-n-preserved
-loop-n-preserved g c =
-    let put = rw (c.judge-rights.ensures.answer, c.loop-n.invariant.same) at c.in_ok-put.ensures in
-    record {
-      lists = row-more (g.J.Judge.judgement c.args.judge.now).rights c.args.user c.args.elements.now c.loop-n.n c.at-element.result.now c.loop-n.lists c.put.new.self _
-          c.at-element.ensures put c.loop-n.invariant.lists;
-      caps = ap (λ (L : Lists). subjects L.caps) put ∙ rights-caps _ _ _ c.loop-n.lists ∙ c.loop-n.invariant.caps;
-      asked = let counted = c.judge-rights.ensures.counted in omega (arith, counted, c.loop-n.invariant.asked);
-      same = c.judge-rights.ensures.same ∙ c.loop-n.invariant.same;
-    }
+pub returns-clause-lists : goal.returns-clause-lists
+returns-clause-lists g c =
+    let rights = (g.J.Judge.judgement c.args.judge.now).rights in
+    let put : c.put_row.new.self ≡ with_row c.args.user (judged_pairs (rights c.args.user) c.args.elements.now) c.args.lists.now =
+    rw c.in_ok-row.ensures.row at c.in_ok-put_row.ensures in
+    ◌∙◌ {b = with_row c.args.user (judged_pairs (rights c.args.user) c.args.elements.now) c.args.lists.now} put
+    (row_put rights c.args.user c.args.elements.now c.args.lists.now)

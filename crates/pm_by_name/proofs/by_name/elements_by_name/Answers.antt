@@ -1,21 +1,32 @@
-use Rattle.std.proofs.Common.{◌≡◌, ◌∙◌, ap, sym, subst, map, Vec, Global}
+use Rattle.std.proofs.Common.{◌≡◌, ◌∙◌, [], ap, sym, subst, map, get_or, Contains, Vec, Global}
 use Rattle.std.proofs.lemmas.Result.{IfOk-weaker}
 use Rattle.pm_policy.specs.Order.{sorted, stands_before}
-use Rattle.pm_policy.specs.Sound.{AreOnce}
+use Rattle.pm_model.specs.declared.elements.Kind.TheVariants as kind
 use Rattle.pm_policy.specs.declared.policy.DocElement.{DocElement}
-use Rattle.pm_by_name.specs.Keyed.{cmp_bytes, element_entry, goes_first, has_key_of}
-use Rattle.pm_by_name.specs.declared.by_name.ByBytes.{ByBytes}
+use Rattle.pm_by_name.specs.Keyed.{AreAt, cmp_bytes, element_key}
 use Rattle.pm_by_name.proofs.ByName.{elements_once, elements_sorted}
+use Rattle.pm_by_name.proofs.Ordered.{rising_sorted}
+use Rattle.pm_by_name.proofs.Places.{places_below}
 use Rattle.pm_by_name.proofs.by_name.elements_by_name.Goals as goal
 
-pub values_by_key-requires : goal.values_by_key-requires
-values_by_key-requires c =
-    subst (λ l. AreOnce (has_key_of cmp_bytes) l) (sym (c.as_slice.ensures.value ∙ c.in_ok-entries.ensures)) (elements_once c.args.elements.now c.requires)
+pub returns-then-are_in_order : goal.returns-then-are_in_order
+returns-then-are_in_order c =
+    c.in_ok-from_slice.ensures.items ∙ sym (rising_sorted stands_before c.args.elements.now (c.are_in_order.ensures.0 c.if-are_in_order.true))
+
+pub places_by_name-requires : goal.places_by_name-requires
+places_by_name-requires c = elements_once c.args.elements.now c.requires
+
+pub items_at-requires : goal.items_at-requires
+items_at-requires c k there =
+    let same = c.as_slice.ensures.value ∙ c.in_ok-places.ensures in
+    places_below cmp_bytes element_key c.args.elements.now k (subst (λ l. Contains l k) same there)
 
 pub returns : goal.returns
 returns c =
-    let same : c.as_slice.result.now ≡ map element_entry c.args.elements.now = c.as_slice.ensures.value ∙ c.in_ok-entries.ensures in
-    IfOk-weaker c.values_by_key.result (λ (v : Vec DocElement Global). v.items ≡ map (λ (e : ByBytes × DocElement). e.1) (sorted (goes_first cmp_bytes) c.as_slice.result.now))
-    (λ (v : Vec DocElement Global). v.items ≡ sorted stands_before c.args.elements.now)
-    (λ v is. is ∙ ap (λ l. map (λ (e : ByBytes × DocElement). e.1) (sorted (goes_first cmp_bytes) l)) same ∙ elements_sorted c.args.elements.now)
-    c.values_by_key.ensures
+    let all = c.args.elements.now in
+    let first : DocElement = record { kind = kind.User; name = [] } in
+    let same = c.as_slice.ensures.value ∙ c.in_ok-places.ensures in
+    IfOk-weaker c.items_at.result (λ (v : Vec DocElement Global). AreAt all c.as_slice.result.now v.items)
+    (λ (v : Vec DocElement Global). v.items ≡ sorted stands_before all)
+    (λ v at. at first ∙ ap (λ l. map (λ k. get_or all k first) l) same ∙ elements_sorted all first)
+    c.items_at.ensures

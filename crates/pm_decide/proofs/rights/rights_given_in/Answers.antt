@@ -1,5 +1,5 @@
 -- The rights that the user attribute of the lowest bit gives come to the others.
-use Rattle.std.proofs.Common.{ℕ, Bool, refl, sym, ◌∙◌, ◌+◌, ◌*◌, arith}
+use Rattle.std.proofs.Common.{ℕ, Bool, refl, ◌∙◌, ◌+◌, ◌*◌, arith}
 use Rattle.pm_model.specs.declared.rights.Grantee.{Grantee}
 use Rattle.pm_decide.specs.Live.{GranteeLive}
 use Rattle.pm_decide.specs.Gives.{some_gives}

@@ -1,5 +1,5 @@
 -- The rights that the user attributes of the word give come to the others.
-use Rattle.std.proofs.Common.{ℕ, Bool, ◌+◌, refl, sym, ap, ◌∙◌, arith}
+use Rattle.std.proofs.Common.{ℕ, Bool, ◌+◌, refl, sym, ◌∙◌}
 use Rattle.pm_model.specs.declared.rights.Grantee.{Grantee}
 use Rattle.pm_model.specs.Decision.{is_met, associations_of}
 use Rattle.pm_decide.specs.Gives.{some_gives}

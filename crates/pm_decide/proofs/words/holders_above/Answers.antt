@@ -1,5 +1,5 @@
 -- Both words have the user attributes with associations that contain the user.
-use Rattle.std.proofs.Common.{ℕ, Bool, ◌+◌, ◌*◌}
+use Rattle.std.proofs.Common.{◌+◌, ◌*◌}
 use Rattle.std.specs.List.{list_any}
 use Rattle.pm_model.specs.Decision.{is_grantee}
 use Rattle.pm_decide.proofs.Bits.{none-of, both-of}

@@ -1,4 +1,5 @@
 -- The review had no list, and what it answers is in order.
+use Rattle.pm_affect.proofs.Were.{inserted-were}
 use Rattle.pm_state.proofs.Charged.{more-charged}
 use Rattle.pm_state.proofs.Repaired.{due-keep, more-free, more-listed}
 use Rattle.pm_state.proofs.repairs.insert.Goals as goal
@@ -19,3 +20,6 @@ returns-clause-listed c =
 pub returns-clause-charged : goal.returns-clause-charged
 returns-clause-charged c =
     rw c.in_ok-insert.ensures.ok (more-charged c.args.lists c.args.graph.now c.args.of c.in_ok-list.list c.kept.ensures)
+
+pub returns-clause-were : goal.returns-clause-were
+returns-clause-were c = rw c.in_ok-insert.ensures.ok (λ G. inserted-were G c.args.of c.in_ok-list.list c.args.lists)

@@ -3,9 +3,11 @@ use Rattle.std.proofs.Common.{refl, arith}
 use Rattle.std.proofs.lemmas.Result.{IfOk-weaker}
 use Rattle.pm_affect.specs.Counting.{judged_for}
 use Rattle.pm_affect.specs.Lists.{Lists}
+use Rattle.pm_affect.proofs.Were.{anew-were}
 use Rattle.pm_state.specs.Containing.{relation_in}
 use Rattle.pm_state.specs.Listing.{AreListed}
-use Rattle.pm_state.specs.Repairs.{IsCharged}
+use Rattle.pm_model.specs.Reviews.{numbers_in, rights_in, users_in}
+use Rattle.pm_state.specs.Repairs.{IsCharged, KeepsWere}
 use Rattle.pm_state.specs.declared.repairs.Repair.TheVariants.{Within}
 use Rattle.pm_state.proofs.Charged.{charged-none, due-judged}
 use Rattle.pm_state.proofs.Regions.{elements-asked, users-asked, few-pairs}
@@ -71,3 +73,12 @@ returns-clause-charged c =
     IfOk-weaker c.update.result _ (λ (M : Lists). IsCharged L M H (Within c.args.region.now)) (λ M charged due.
     rw (c.reach-reach.ensures.assigned, c.in_ok-elements.ensures, c.in_ok-users.ensures, ← due-judged L H c.args.region.now due) at charged)
     c.update.ensures.charged
+
+pub returns-clause-were : goal.returns-clause-were
+returns-clause-were c =
+    let L = c.args.lists in
+    let H = c.args.graph.now in
+    if-both c.update.result _ _ (λ (M : Lists). KeepsWere L M)
+    (λ M caps entries G. anew-were G (rights_in H) (numbers_in H.elements) (users_in H.elements) L M caps entries)
+    (rw (c.in_ok-judge.ensures.graph, c.in_ok-elements.ensures) at c.update.ensures.caps)
+    (rw (c.in_ok-judge.ensures.graph, c.in_ok-users.ensures) at c.update.ensures.entries)

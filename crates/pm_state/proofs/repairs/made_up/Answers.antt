@@ -1,6 +1,7 @@
 use Rattle.std.proofs.Common.{subst}
 use Rattle.pm_state.specs.Repairs.{IsDue}
 use Rattle.pm_state.specs.declared.repairs.Repair.{Repair}
+use Rattle.pm_affect.proofs.Were.{removed-were}
 use Rattle.pm_state.proofs.Charged.{less-charged}
 use Rattle.pm_state.proofs.Repaired.{due-drop}
 use Rattle.pm_state.proofs.repairs.made_up.Goals as goal
@@ -20,3 +21,6 @@ returns-in-More-clause-charged c = rw (c.in-More.is) c.insert.ensures.charged
 
 pub returns-in-Within-clause-charged : goal.returns-in-Within-clause-charged
 returns-in-Within-clause-charged c = rw (c.in-Within.is) c.repair_within.ensures.charged
+
+pub returns-in-Less-clause-were : goal.returns-in-Less-clause-were
+returns-in-Less-clause-were c = rw (c.remove.ensures) (λ G. removed-were G c.in-Less.of c.args.lists)

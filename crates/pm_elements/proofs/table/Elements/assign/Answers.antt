@@ -2,6 +2,7 @@
 use Rattle.std.proofs.Common.{ap, ◌∙◌, ◌&&◌, arith}
 use Rattle.pm_elements.specs.Slots.{shown, pairs_of}
 use Rattle.pm_elements.proofs.Shown.{slot_taken}
+use Rattle.pm_elements.proofs.Bounds.{free-linked}
 use Rattle.pm_elements.proofs.Created.{few_children}
 use Rattle.pm_elements.proofs.Fits.{assign_fits}
 use Rattle.pm_elements.proofs.Linking.{Kept-linked, shown-linked, pairs-linked, same_table}
@@ -15,18 +16,22 @@ link-requires-clause-y_live c = slot_taken c.self.inside.slots.items c.args.y (r
 
 pub link-requires-clause-few : goal.link-requires-clause-few
 link-requires-clause-few c =
-    omega (arith, few_children c.self.inside.slots.items c.self.inside.names.items c.self.inside.live c.self.inside.links c.args.y c.self.invariant)
+    omega (arith, few_children c.self.inside.slots.items c.self.inside.names.items c.self.inside.live c.self.inside.links c.args.y c.self.invariant.kept)
 
 pub invariant_of-self-2 : goal.invariant_of-self-2
 invariant_of-self-2 c =
     let slots = c.self.inside.slots.items in
     let fits = assign_fits (shown slots) (pairs_of slots) c.args.x c.args.y (rw (← c.self.view_is) at c.in_ok-check_assign.ensures.fits) in
-    rw c.in_ok-link.ensures.ok
-    (Kept-linked slots c.self.inside.names.items c.self.inside.live c.self.inside.links c.args.x c.args.y c.self.invariant
-    (slot_taken slots c.args.x (rw (← c.self.view_is) at c.requires.x_live))
-    (slot_taken slots c.args.y (rw (← c.self.view_is) at c.requires.y_live))
-    fits.0
-    (omega (arith, fits.1, c.self.invariant.linked)))
+    record {
+      kept =
+          rw c.in_ok-link.ensures.ok
+          (Kept-linked slots c.self.inside.names.items c.self.inside.live c.self.inside.links c.args.x c.args.y c.self.invariant.kept
+          (slot_taken slots c.args.x (rw (← c.self.view_is) at c.requires.x_live))
+          (slot_taken slots c.args.y (rw (← c.self.view_is) at c.requires.y_live))
+          fits.0
+          (omega (arith, fits.1, c.self.invariant.kept.linked)));
+      taken = rw (c.in_ok-link.ensures.ok, free-linked c.args.x c.args.y slots) c.self.invariant.taken;
+    }
 
 pub returns-clause-ok : goal.returns-clause-ok
 returns-clause-ok c =

@@ -1,6 +1,7 @@
 -- One assignment less, where nothing refuses it.
 use Rattle.std.proofs.Common.{ap, ◌∙◌, ◌&&◌}
 use Rattle.pm_elements.specs.Slots.{shown, pairs_of}
+use Rattle.pm_elements.proofs.Bounds.{free-unlinked}
 use Rattle.pm_elements.proofs.Shown.{slot_taken}
 use Rattle.pm_elements.proofs.Fits.{deassign_fits}
 use Rattle.pm_elements.proofs.Linking.{Kept-unlinked, shown-unlinked, pairs-unlinked, same_table}
@@ -15,9 +16,13 @@ unlink-requires-clause-y_live c = slot_taken c.self.inside.slots.items c.args.y 
 pub invariant_of-self-2 : goal.invariant_of-self-2
 invariant_of-self-2 c =
     let slots = c.self.inside.slots.items in
-    rw c.in_ok-unlink.ensures.ok
-    (Kept-unlinked slots c.self.inside.names.items c.self.inside.live c.self.inside.links c.args.x c.args.y c.self.invariant
-    (deassign_fits (pairs_of slots) c.args.x c.args.y (rw (← c.self.view_is) at c.in_ok-check_deassign.ensures.fits)))
+    record {
+      kept =
+          rw c.in_ok-unlink.ensures.ok
+          (Kept-unlinked slots c.self.inside.names.items c.self.inside.live c.self.inside.links c.args.x c.args.y c.self.invariant.kept
+          (deassign_fits (pairs_of slots) c.args.x c.args.y (rw (← c.self.view_is) at c.in_ok-check_deassign.ensures.fits)));
+      taken = rw (c.in_ok-unlink.ensures.ok, free-unlinked c.args.x c.args.y slots) c.self.invariant.taken;
+    }
 
 pub returns-clause-ok : goal.returns-clause-ok
 returns-clause-ok c =

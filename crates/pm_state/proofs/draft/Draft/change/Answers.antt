@@ -7,7 +7,7 @@ use Rattle.pm_state.specs.Leaving.{AreNamesKept}
 use Rattle.pm_affect.proofs.Counting.{rows-made}
 use Rattle.pm_state.proofs.Charged.{if-charged, rows-added}
 use Rattle.pm_model.specs.History.{replay}
-use Rattle.pm_state.proofs.Listed.{if-due}
+use Rattle.pm_state.proofs.Listed.{if-due, if-were}
 use Rattle.pm_state.proofs.NamesKept.{names-more}
 use Rattle.pm_state.proofs.draft.Draft.change.Goals.{then-self, else-self, in-Some, in-None}
 use Rattle.pm_state.proofs.draft.Draft.change.Goals as goal
@@ -48,6 +48,7 @@ invariant_of-self-2 c =
       legal = kept.legal;
       limit = kept.limit;
       listed = c.repaired.ensures.listed;
+      were = if-were d.lists c.take.result c.repaired.result (replay d.history.entries).graph c.take.ensures.value kept.were c.repaired.ensures.were;
       few = search;
       names = elim c.if-self.branch as (λ w. c.if-self.self ≡ false → AreNamesKept (replay d.history.entries).graph c.change.new.self) [
         | then-self w ↦ λ no. absurd (let yes : true ≡ false = sym w.if-self.true ∙ sym w.self-is ∙ no in cc)

@@ -12,6 +12,7 @@ invariant_of-self c =
       legal = kept.legal;
       limit = kept.limit;
       few = kept.few;
+      were = kept.were;
       listed = if-set d.lists d.graph c.set_last.new.self c.args.place c.args.version c.args.changes (rw (← c.self.view_is) at c.requires) c.set_last.ensures kept.listed;
       names = λ no.
           names-set (replay d.history.entries).graph d.graph c.set_last.new.self c.args.place c.args.version c.args.changes (rw (← c.self.view_is) at c.requires) c.set_last.ensures (kept.names no);
