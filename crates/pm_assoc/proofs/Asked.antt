@@ -7,7 +7,8 @@ use Rattle.pm_model.specs.Decision.{of_grantee, associations_of}
 use Rattle.pm_model.specs.declared.rights.Association.{Association}
 use Rattle.pm_model.specs.declared.rights.Grant.{Grant}
 use Rattle.pm_model.specs.declared.rights.Grantee.{Grantee}
-use Rattle.pm_assoc.specs.Grantees.{grantee, is_on, mentions, AreGrantees, IsAt, IsGapFor}
+use Rattle.pm_model.specs.Grants.{is_on}
+use Rattle.pm_assoc.specs.Grantees.{grantee, mentions, AreGrantees, IsAt, IsGapFor}
 
 or_false : (b : Bool) → (b || false) ≡ b
 or_false true = refl

@@ -8,7 +8,8 @@ use Rattle.pm_model.specs.Decision.{of_grantee, associations_of}
 use Rattle.pm_model.specs.declared.rights.Association.{Association}
 use Rattle.pm_model.specs.declared.rights.Grant.{Grant}
 use Rattle.pm_model.specs.declared.rights.Grantee.{Grantee}
-use Rattle.pm_assoc.specs.Grantees.{grantee, association, AreGrantees, IsAt, IsGapFor, edited, grants_off, without_grant, kept, without_empty}
+use Rattle.pm_model.specs.Grants.{grants_off}
+use Rattle.pm_assoc.specs.Grantees.{grantee, association, AreGrantees, IsAt, IsGapFor, edited, without_grant, kept, without_empty}
 
 module _ (ua at : ℕ) where
   abbrev pub rest_of : List Association → List Association

@@ -1,6 +1,7 @@
 -- The user attributes that have associations, each with these: by rising user attribute, and none without any.
-use Rattle.std.specs.Prelude.{◌≡◌, ℕ, zero, suc, Bool, false, not, ◌==◌, ◌||◌, ◌+◌, ◌<◌, ◌≤◌, List, [], ◌∷◌, ◌++◌, length, filter, if◌then◌else◌}
+use Rattle.std.specs.Prelude.{◌≡◌, ℕ, zero, suc, Bool, false, ◌==◌, ◌||◌, ◌+◌, ◌<◌, ◌≤◌, List, [], ◌∷◌, ◌++◌, length, if◌then◌else◌}
 use Rattle.std.specs.List.{list_any}
+use Rattle.pm_model.specs.Grants.{is_on, grants_off}
 use Rattle.pm_model.specs.declared.rights.Association.{Association}
 use Rattle.pm_model.specs.declared.rights.Grant.{Grant}
 use Rattle.pm_model.specs.declared.rights.Grantee.{Grantee}
@@ -11,9 +12,6 @@ grantee ua grants = record { ua = ua; grants = grants }
 -- what the grant gives the user attribute
 abbrev pub association : ℕ → Grant → Association
 association ua grant = record { ua = ua; rights = grant.rights; at = grant.at }
-
-abbrev pub is_on : ℕ → Grant → Bool
-is_on at grant = grant.at == at
 
 -- the user attribute is this element, or has an association on it
 abbrev pub mentions : ℕ → Grantee → Bool
@@ -54,10 +52,6 @@ edited f (suc i) (x ∷ xs) = x ∷ edited f i xs
 -- one grant more, behind the others
 abbrev pub with_grant : Grant → Grantee → Grantee
 with_grant grant g = grantee g.ua (g.grants ++ grant ∷ [])
-
--- the grants that are not on `at`
-abbrev pub grants_off : ℕ → List Grant → List Grant
-grants_off at grants = filter (λ grant. not (is_on at grant)) grants
 
 abbrev pub without_grant : ℕ → Grantee → Grantee
 without_grant at g = grantee g.ua (grants_off at g.grants)

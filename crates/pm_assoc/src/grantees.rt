@@ -7,16 +7,17 @@ ghost use Rattle.pm_model.specs.Effect.{joins, joined};
 ghost use Rattle.pm_model.specs.Decision.{associations_of, is_grantee};
 ghost use Rattle.pm_pages.specs.Paged.{IsOwn};
 ghost use Rattle.pm_assoc.specs.Holders.{holds, TellsBelow, TellsHolders};
-ghost use Rattle.pm_assoc.specs.Grantees.{AreGrantees, grantee, association, is_on, mentions, edited, with_grant, grants_off, without_grant, without_empty};
+ghost use Rattle.pm_model.specs.Grants.{is_on, grants_off};
+ghost use Rattle.pm_assoc.specs.Grantees.{AreGrantees, grantee, association, mentions, edited, with_grant, without_grant, without_empty};
 
 use crate::holders::Holders;
 use crate::search::locate;
-use pm_model::{ElementId, Grant, Grantee, ItemList, Memory};
+use pm_model::{ElementId, Grant, GrantList, Grantee, Memory};
 use pm_pages::PageList;
 use std::alloc::Global;
 
 /// Whether one of the grants is on the element.
-fn is_given(grants: &ItemList<Grant>, at: ElementId) -> bool
+fn is_given(grants: &GrantList, at: ElementId) -> bool
     ensures { result ≡ list_any (is_on at) grants.now }
 {
     grants.as_slice().iter().any(|grant| grant.at == at)
@@ -117,7 +118,7 @@ fn add_grant(grantees: &mut PageList<Grantee>, i: usize, grant: Grant) -> Result
 fn first_grant(alloc: Global, ua: ElementId, grant: Grant) -> Result<Grantee, Memory>
     ensures { IfOk result (λ g. g ≡ grantee ua (grant ∷ [])) }
 {
-    let mut grants = ItemList::new(alloc);
+    let mut grants = GrantList::new(alloc);
     grants.push(grant)?;
     Ok(Grantee { ua, grants })
 }
@@ -160,12 +161,12 @@ pub(crate) fn add(
 }
 
 /// Takes the grants on the element out of the list, and says how many there were.
-fn take_out(grants: &mut ItemList<Grant>, at: ElementId) -> usize
+fn take_out(grants: &mut GrantList, at: ElementId) -> usize
     ensures grants { grants.new ≡ grants_off at grants.old }
     ensures count { length grants.new + result ≡ length grants.old }
 {
     let before = grants.len();
-    grants.retain(|grant| grant.at != at);
+    grants.take_off(at);
     before - grants.len()
 }
 

@@ -1,6 +1,6 @@
 -- The places of items, sorted by the items' keys.
 use Rattle.std.proofs.Common.{zero, suc, ◌≡◌, ◌<◌, ◌≤◌, ◌+◌, ◌-◌, ℕ, Bool, List, [], ◌∷◌, ◌++◌, length, map, take, drop, get_or, Contains, inl, inr, refl, sym, ◌∙◌, ap, subst, arith}
-use Rattle.std.specs.List.{list_any}
+use Rattle.std.specs.List.{list_any, range_with_len}
 use Rattle.std.specs.BTreeMap.{insert_entry}
 use Rattle.std.specs.Ordering.{is_lt}
 use Rattle.std.specs.declared.cmp.Ordering.{Ordering}
@@ -145,3 +145,35 @@ module _ {X K : Type 0} (cmp : K → K → Ordering) (key : X → K) where
 
           keys : (e : K × ℕ) → Contains (places_from key 0 xs) e → e.0 ≡ key (get_or xs e.1 d)
           keys e c = from-keys xs 0 xs all e c
+
+-- ---- all places, in their order
+
+range-from : {X : Type 0} (d : X) (all : List X) (n : ℕ) (xs : List X) → StandFrom d all n xs → map (λ k. get_or all k d) (range_with_len n (length xs)) ≡ xs
+range-from d all n [] h = refl
+range-from d all n (x ∷ xs) h =
+    let this : get_or all n d ≡ x = subst (λ m. get_or all m d ≡ x) (omega arith) (h 0 (omega arith)) in
+    let rest = range-from d all (n + 1) xs (λ k below. subst (λ m. get_or all m d ≡ get_or xs k d) (omega arith) (h (suc k) (omega (arith, below)))) in
+    ap (λ y. y ∷ map (λ k. get_or all k d) (range_with_len (n + 1) (length xs))) this ∙ ap (λ l. x ∷ l) rest
+
+pub all-there : {X : Type 0} (xs : List X) (d : X) → map (λ k. get_or xs k d) (range_with_len 0 (length xs)) ≡ xs
+all-there xs d = range-from d xs 0 xs (λ k below. ap (λ i. get_or xs i d) (let e : 0 + k ≡ k = omega arith in e))
+
+range-below : (a n k : ℕ) → Contains (range_with_len a n) k → k < a + n
+range-below a zero k c = contains-none k c
+range-below a (suc n) k c = elim (contains-cases a k (range_with_len (a + 1) n) c) [
+  | inl same ↦ omega (arith, same)
+  | inr below ↦ let rest = range-below (a + 1) n k below in omega (arith, rest)
+]
+
+pub all-below : (n k : ℕ) → Contains (range_with_len 0 n) k → k < n
+all-below n k c = let below = range-below 0 n k c in omega (arith, below)
+
+range-next : (a n : ℕ) → range_with_len a n ++ (a + n) ∷ [] ≡ range_with_len a (suc n)
+range-next a zero = ap (λ k. k ∷ []) (omega arith)
+range-next a (suc n) =
+    ap (λ k. a ∷ range_with_len (a + 1) n ++ k ∷ []) (let e : a + suc n ≡ (a + 1) + n = omega arith in e) ∙ ap (λ l. a ∷ l) (range-next (a + 1) n)
+
+pub one-place-more : (n : ℕ) → range_with_len 0 n ++ n ∷ [] ≡ range_with_len 0 (n + 1)
+one-place-more n =
+    ap (λ k. range_with_len 0 n ++ k ∷ []) (let e : n ≡ 0 + n = omega arith in e) ∙ range-next 0 n
+    ∙ ap (λ k. range_with_len 0 k) (let e : suc n ≡ n + 1 = omega arith in e)

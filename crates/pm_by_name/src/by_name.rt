@@ -2,6 +2,7 @@
 
 ghost use Rattle.std.specs.Prelude.{◌≡◌, ◌↔◌, ℕ, ◌<◌, Bool, true, length, map, Contains, IfOk};
 ghost use Rattle.std.specs.BTreeMap.{values};
+ghost use Rattle.std.specs.List.{range_with_len};
 ghost use Rattle.pm_by_name.specs.Keyed.{AreAt, association_in, assignment_key, element_key, ends_key, goes_first, has_key_of, have_one_key, places_by, places_from};
 ghost use Rattle.pm_by_name.specs.Rising.{AreRising};
 ghost use Rattle.pm_policy.specs.Order.{is_below, leads_before, sorted, stands_before};
@@ -149,6 +150,13 @@ fn are_in_order<T: ByName>(items: &[T]) -> bool
     true
 }
 
+/// Whether each element stands before the next, by name.
+pub fn are_elements_in_order(elements: &[DocElement]) -> bool
+    ensures { (result ≡ true) ↔ AreRising stands_before elements.now }
+{
+    are_in_order(elements)
+}
+
 /// Whether each assignment stands before the next, by the first and then the second names: then none stands twice.
 pub fn are_assignments_in_order(pairs: &[DocAssignment]) -> bool
     ensures { (result ≡ true) ↔ AreRising leads_before pairs.now }
@@ -232,6 +240,17 @@ fn items_at<T: Copy + Drop>(alloc: Global, items: &[T], places: &[usize]) -> Res
     Ok(list)
 }
 
+/// The places of so many items.
+fn all_places(alloc: Global, count: usize) -> Result<Vec<usize>, Memory>
+    ensures { IfOk result (λ v. v.items ≡ range_with_len 0 count) }
+{
+    let mut places = Vec::with_capacity(alloc, count)?;
+    for place in 0..count {
+        places.push(place)?;
+    }
+    Ok(places)
+}
+
 /// The elements by name.
 pub fn elements_by_name(alloc: Global, elements: &[DocElement]) -> Result<Vec<DocElement>, Memory>
     requires { AreOnceCalled elements.now }
@@ -268,5 +287,8 @@ pub fn associations_by_name(
     ensures order { IfOk result (λ v. map (association_in associations.now) v.items ≡ sorted joins_before associations.now) }
     ensures places { IfOk result (λ v. (k : ℕ) → Contains v.items k → k < length associations.now) }
 {
+    if are_in_order(associations) {
+        return all_places(alloc, associations.len());
+    }
     places_by_name(alloc, associations)
 }

@@ -5,6 +5,7 @@ pub mod Groups
 pub mod Hits
 pub mod Meaning
 pub mod Orders
+pub mod Passed
 pub mod Privileges
 pub mod RightSets
 pub mod Runs

@@ -10,6 +10,7 @@ ghost use Rattle.pm_decide.specs.Hits.{AreHolders, in_word, some_of};
 ghost use Rattle.pm_decide.specs.Live.{IsLive, AllLive, EndsLive, IsAsked, GranteeLive};
 ghost use Rattle.pm_decide.specs.Unmet.{AreClasses, AreThose, AreLeft};
 
+use crate::places::may_be_on;
 use crate::words::{holders_above, lowest, with_bit, without_bit};
 use pm_model::{ClassList, ElementId, Grant, Grantee, Grants, Reach};
 
@@ -97,6 +98,29 @@ fn left_by_grants<R: Reach>(
     left
 }
 
+/// Those of the unmet classes in which no grant of the user attribute gives the right on the element. The grants
+/// are passed by where none can be on what contains it.
+fn left_by_grantee<R: Reach>(
+    reach: &mut R,
+    classes: &[ElementId],
+    unmet: u64,
+    grantee: &Grantee,
+    right: u8,
+    element: ElementId,
+) -> u64
+    requires unmet { AreClasses (R.relation reach.old) classes.now unmet }
+    requires grantee { GranteeLive (R.relation reach.old) grantee.now }
+    requires right { right < right_bits }
+    requires element { IsLive (R.relation reach.old) element }
+    ensures left { AreLeft (λ pc. some_gives (R.relation reach.old).below right element pc grantee.now) classes.now unmet result }
+    ensures same { R.relation reach.new ≡ R.relation reach.old }
+{
+    if !may_be_on(reach, &grantee.grants, element) {
+        return unmet;
+    }
+    left_by_grants(reach, classes, unmet, grantee, right, element)
+}
+
 /// Those of the unmet classes in which no grant of those user attributes whose bit is set gives the right on the
 /// element. Bit i of the word is the number 64 k + i.
 fn left_by_word<R: Reach, G: Grants>(
@@ -126,7 +150,7 @@ fn left_by_word<R: Reach, G: Grants>(
         }
         let i = lowest(unasked);
         let grantee = grants.grantee(ElementId(64 * k + i));
-        left = left_by_grants(reach, classes, left, grantee, right, element);
+        left = left_by_grantee(reach, classes, left, grantee, right, element);
         unasked = without_bit(unasked, i);
     }
     left

@@ -9,6 +9,7 @@ ghost use Rattle.pm_decide.specs.Hits.{AreHolders, in_word, some_of};
 ghost use Rattle.pm_decide.specs.Live.{IsLive, EndsLive, IsAsked, IsAskedIn, GranteeLive, NamesLive, BarsLive};
 ghost use Rattle.pm_decide.specs.Sets.{IsSetOf};
 
+use crate::places::may_be_on;
 use crate::prohibitions::{applies, in_range};
 use crate::words::{holders_above, lowest, without_bit};
 use pm_model::{
@@ -75,6 +76,26 @@ fn rights_of_grants<R: Reach>(
     rights
 }
 
+/// The rights that the grants of a user attribute give on the element in the class. The grants are passed
+/// by where none can be on what contains it.
+fn rights_of_grantee<R: Reach>(
+    reach: &mut R,
+    grantee: &Grantee,
+    element: ElementId,
+    class: ElementId,
+) -> Rights
+    requires element { IsLive (R.relation reach.old) element }
+    requires class { IsLive (R.relation reach.old) class }
+    requires grantee { GranteeLive (R.relation reach.old) grantee.now }
+    ensures answer { IsSetOf (λ r. some_gives (R.relation reach.old).below r element class grantee.now) result }
+    ensures same { R.relation reach.new ≡ R.relation reach.old }
+{
+    if !may_be_on(reach, &grantee.grants, element) {
+        return NO_RIGHTS;
+    }
+    rights_of_grants(reach, grantee, element, class)
+}
+
 /// The rights on the element in the class that the grants of those user attributes give whose bit is
 /// set. Bit i of the word is the number 64 k + i.
 fn rights_given_in<R: Reach, G: Grants>(
@@ -98,7 +119,7 @@ fn rights_given_in<R: Reach, G: Grants>(
     while left > 0 {
         let i = lowest(left);
         let grantee = grants.grantee(ElementId(64 * k + i));
-        let more = rights_of_grants(reach, grantee, element, class);
+        let more = rights_of_grantee(reach, grantee, element, class);
         rights = rights.union(more);
         left = without_bit(left, i);
     }
@@ -240,9 +261,10 @@ pub fn rights_denied<R: Reach, B: Bars>(
 ///
 /// Takes no memory. Each question of containment is asked for all rights at once: at most one for each
 /// class and, in each class that contains the element, one for each word of 64 numbers in which there
-/// are user attributes with associations, and at most two for each grant of those that contain the user; then, for each prohibition on the
-/// user or on a user attribute, those that [`first_applying`](crate::first_applying) asks of one that
-/// has the right.
+/// are user attributes with associations, of those that contain the user one for each word that tells what
+/// a long list of grants is on, and at most two for each grant; then, for each prohibition on the user or
+/// on a user attribute, those that [`first_applying`](crate::first_applying) asks of one that has the
+/// right.
 pub fn rights_of<R: Reach, G: Grants, B: Bars>(
     reach: &mut R,
     grants: &G,

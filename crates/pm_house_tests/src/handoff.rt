@@ -5,12 +5,11 @@ ghost use Rattle.std.specs.Prelude.{◌≡◌};
 use pm_handoff::{Ends, Giver, Handoff, Numbered, Refused, Taker};
 use std::process::Abort;
 use std::sync::Wait;
-use std::test::Fail;
 use std::thread;
 use std::thread::Threads;
 
 /// An item that is its number alone.
-#[derive(Debug, Drop, PartialEq, Eq)]
+#[derive(Drop)]
 struct Item(u64);
 
 impl Numbered for Item {
@@ -21,49 +20,61 @@ impl Numbered for Item {
     }
 }
 
-/// Gives the item with this number, which is answered so.
+/// Whether the item with this number is given; one that finds no room comes back.
 fn gives<R: Wait + Abort>(
     rt: &R,
     queue: &Handoff<Item>,
     giver: &mut Giver<Item>,
     number: u64,
-    answer: Result<(), Refused<Item>>,
-)
+) -> bool
     requires { giver.old.place ≡ queue.now.place }
     ensures { giver.new.place ≡ giver.old.place }
 {
-    assert_eq!(rt; queue.give(rt, giver, Item(number)), answer);
+    match queue.give(rt, giver, Item(number)) {
+        Ok(()) => true,
+        Err(Refused::Full(back)) => {
+            assert!(rt; back.number() == number);
+            false
+        }
+    }
 }
 
-/// Takes an item, or none.
-fn takes<R: Wait + Abort>(
-    rt: &R,
-    queue: &Handoff<Item>,
-    taker: &mut Taker<Item>,
-    answer: Option<Item>,
-)
+/// The number of the item that is taken, or none.
+fn takes<R: Wait>(rt: &R, queue: &Handoff<Item>, taker: &mut Taker<Item>) -> Option<u64>
     requires { taker.old.place ≡ queue.now.place }
     ensures { taker.new.place ≡ taker.old.place }
 {
-    assert_eq!(rt; queue.take(rt, taker), answer);
+    let item = queue.take(rt, taker)?;
+    Some(item.number())
+}
+
+fn two_are_given<R: Wait + Abort>(rt: &R, queue: &Handoff<Item>, giver: &mut Giver<Item>)
+    requires { giver.old.place ≡ queue.now.place }
+    ensures { giver.new.place ≡ giver.old.place }
+{
+    assert!(rt; gives(rt, queue, giver, 7));
+    assert!(rt; gives(rt, queue, giver, 8));
+    assert!(rt; !gives(rt, queue, giver, 9));
+}
+
+fn two_are_taken<R: Wait + Abort>(rt: &R, queue: &Handoff<Item>, taker: &mut Taker<Item>)
+    requires { taker.old.place ≡ queue.now.place }
+{
+    assert!(rt; takes(rt, queue, taker) == Some(7));
+    assert!(rt; takes(rt, queue, taker) == Some(8));
+    assert!(rt; takes(rt, queue, taker) == None);
 }
 
 #[test]
-fn two_fit_and_come_in_order(rt: HostRuntime) -> Result<(), Fail> {
-    let ends = Handoff::new(rt.alloc(), 2)?;
+fn two_fit_and_come_in_order(rt: HostRuntime) {
     let Ends {
         queue,
         mut giver,
         mut taker,
-    } = ends;
-    gives(&rt, &queue, &mut giver, 7, Ok(()));
-    gives(&rt, &queue, &mut giver, 8, Ok(()));
-    gives(&rt, &queue, &mut giver, 9, Err(Refused::Full(Item(9))));
+    } = Handoff::new(rt.alloc(), 2).expect(&rt, "memory");
+    two_are_given(&rt, &queue, &mut giver);
     queue.compare(&mut giver, &mut taker);
-    takes(&rt, &queue, &mut taker, Some(Item(7)));
-    takes(&rt, &queue, &mut taker, Some(Item(8)));
-    takes(&rt, &queue, &mut taker, None);
-    Ok(())
+    two_are_taken(&rt, &queue, &mut taker);
 }
 
 /// Gives the item with this number, again and again until there is room.
@@ -138,8 +149,7 @@ fn run_both<R: Threads + Wait + Sync>(rt: &R, ends: Ends<Item>, last: u64) -> u6
 }
 
 #[test]
-fn a_hundred_come_in_order_from_another_thread(rt: HostRuntime) -> Result<(), Fail> {
-    let ends = Handoff::new(rt.alloc(), 2)?;
-    assert_eq!(rt; run_both(&rt, ends, 100), 100);
-    Ok(())
+fn a_hundred_come_in_order_from_another_thread(rt: HostRuntime) {
+    let ends = Handoff::new(rt.alloc(), 2).expect(&rt, "memory");
+    assert!(rt; run_both(&rt, ends, 100) == 100);
 }

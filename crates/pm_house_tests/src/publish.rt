@@ -12,7 +12,7 @@ use std::thread;
 use std::thread::Threads;
 
 /// The length of a list of which all entries are the same.
-#[derive(Debug, Drop, PartialEq, Eq)]
+#[derive(Drop)]
 struct Length(u64);
 
 impl Grows for Length {
@@ -63,19 +63,32 @@ fn show<H: Naming>(
     two: &Viewer<Length, H>,
     lengths: (u64, u64),
 ) {
-    assert_eq!(rt; (one.shown().0, two.shown().0), lengths);
+    assert!(rt; (one.shown().0, two.shown().0) == lengths);
+}
+
+/// Two versions are published; the one viewer looks after each, and the other is told of the second.
+fn publish_two<H: Naming, R: Wait + Abort>(
+    rt: &R,
+    alloc: Global,
+    publisher: &mut Publisher<Length, H>,
+    one: &mut Viewer<Length, H>,
+    two: &mut Viewer<Length, H>,
+)
+    requires { publisher.old.0 ≡ 0 }
+{
+    let older = publish_length(rt, alloc, publisher, 3).expect(rt, "memory");
+    assert!(rt; one.look());
+    show(rt, one, two, (3, 0));
+    let newer = publish_length(rt, alloc, publisher, 5).expect(rt, "memory");
+    assert!(rt; two.told(newer) && !two.told(older));
+    assert!(rt; one.look() && two.look());
 }
 
 fn look_and_be_told<H: Naming, R: Wait + Abort>(rt: &R, alloc: Global, opened: Opened)
     requires { opened ≡ H.book }
 {
     let (mut publisher, mut one, mut two) = two_viewers::<H, R>(rt, alloc, opened);
-    let older = publish_length(rt, alloc, &mut publisher, 3).expect(rt, "memory");
-    assert!(rt; one.look());
-    show(rt, &one, &two, (3, 0));
-    let newer = publish_length(rt, alloc, &mut publisher, 5).expect(rt, "memory");
-    assert!(rt; two.told(newer) && !two.told(older));
-    assert!(rt; one.look() && two.look());
+    publish_two(rt, alloc, &mut publisher, &mut one, &mut two);
     show(rt, &one, &two, (5, 5));
 }
 

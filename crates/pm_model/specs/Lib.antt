@@ -9,6 +9,8 @@ pub mod Effect
 pub mod Events
 pub mod Formed
 pub mod Forms
+pub mod Grants
+pub mod GrantsKept
 pub mod History
 pub mod KeptReviews
 pub mod LastChanges

@@ -4,7 +4,7 @@ ghost use Rattle.std.specs.Prelude.{◌≡◌, ◌<◌, ◌==◌, ◌^◌, bit_o
 ghost use Rattle.pm_model.specs.RightSet.{has_right, is_access_right, right_bits};
 
 use crate::elements::ElementId;
-use crate::lists::ItemList;
+use crate::grants::GrantList;
 use std::marker::Model;
 
 /// The number that a set of rights is.
@@ -81,7 +81,7 @@ pub struct Grant {
 /// The associations of one user attribute, in order of creation.
 pub struct Grantee {
     pub ua: ElementId,
-    pub grants: ItemList<Grant>,
+    pub grants: GrantList,
 }
 
 impl Drop for Grantee {

@@ -1,41 +1,22 @@
 -- The places at which an element can be made, as a set.
-use Rattle.std.proofs.Common.{zero, suc, ◌≡◌, ◌≤◌, ◌<◌, ◌+◌, ◌↔◌, ◌⊎◌, ◌&&◌, ℕ, Bool, true, false, not, List, [], ◌∷◌, ◌++◌, length, get_or, slice_set, Some, None, Contains, inl, inr, refl, sym, ◌∙◌, ap, subst, arith, Less}
-use Rattle.std.specs.List.{All, list_all}
-use Rattle.std.specs.Ordering.{is_eq, nat_cmp}
-use Rattle.std.specs.BTreeSet.{contains, BTreeSet, Updates}
-use Rattle.std.specs.BTreeMap.Range.{IsLtBy}
+use Rattle.std.proofs.Common.{zero, suc, ◌≡◌, ◌≤◌, ◌<◌, ◌+◌, ◌↔◌, ◌⊎◌, ◌&&◌, ℕ, Bool, true, false, not, List, [], ◌∷◌, ◌++◌, length, get_or, slice_set, Some, None, Contains, inl, inr, refl, sym, ◌∙◌, ap, subst, arith}
+use Rattle.std.specs.List.{list_all}
 use Rattle.std.proofs.lemmas.Bool.{cases_Bool, cases_eq}
-use Rattle.std.proofs.lemmas.Bool.Decides.{nat_tests}
-use Rattle.std.proofs.lemmas.Cmp.{nat_cmp_total}
 use Rattle.std.proofs.lemmas.List.{get_or-set_same, get_or-set_other}
-use Rattle.std.proofs.lemmas.List.Elements.{All-contains, Contains-append_left, Contains-push, Contains-push_cases}
-use Rattle.std.proofs.lemmas.Map.Lookups.{exact_unsigned}
-use Rattle.std.proofs.lemmas.Map.Views.{btree_set_contains_iff}
-use Rattle.pm_laws.proofs.Items.{contains-cases, contains-first, contains-none, contains-rest}
-use Rattle.pm_order.specs.Ranked.{can_make, first_from, AreChildren, AreFree, IsFree}
+use Rattle.std.proofs.lemmas.List.Elements.{Contains-append_left, Contains-push, Contains-push_cases}
+use Rattle.pm_laws.proofs.Items.{contains-first, contains-none, contains-rest}
+use Rattle.pm_order.specs.Ranked.{can_make, first_from, AreChildren, AreFree, IsFree, IsTaken}
+
+-- ---- tests
+
+pub and_parts : (a b : Bool) → (a && b) ≡ true → (a ≡ true) × (b ≡ true)
+and_parts true b h = (refl, h)
+and_parts false b h = absurd (cc)
+
+true-not-false : true ≡ false → ⊥
+true-not-false h = absurd (cc)
 
 -- ---- one place more
-
-at-other : (k i : ℕ) → (i ≡ k → ⊥) → is_eq (nat_cmp k i) ≡ false
-at-other k i h = grind (arith, nat_tests)
-
-pub set-added : (s n : BTreeSet ℕ) (k : ℕ) → Updates nat_cmp s n k true → (i : ℕ) → Contains n.keys i ↔ (Contains s.keys i ⊎ (i ≡ k))
-set-added s n k h i = (to, from) where
-  has : (t : BTreeSet ℕ) → (contains nat_cmp t i ≡ true) ↔ Contains t.keys i
-  has t = btree_set_contains_iff nat_cmp_total exact_unsigned t i
-
-  to : Contains n.keys i → Contains s.keys i ⊎ (i ≡ k)
-  to c = elim (cases_eq i k) [
-    | inl same ↦ inr same
-    | inr other ↦ inl ((has s).0 (sym (h.2 i (at-other k i other)) ∙ (has n).1 c))
-  ]
-
-  from : Contains s.keys i ⊎ (i ≡ k) → Contains n.keys i
-  from (inr same) = (has n).0 (subst (λ j. contains nat_cmp n j ≡ true) (sym same) h.1)
-  from (inl c) = elim (cases_eq i k) [
-    | inl same ↦ (has n).0 (subst (λ j. contains nat_cmp n j ≡ true) (sym same) h.1)
-    | inr other ↦ (has n).0 (h.2 i (at-other k i other) ∙ (has s).1 c)
-  ]
 
 module _ (above : List (List ℕ)) (made : List Bool) where
   abbrev pub AddsPlace : ℕ → List ℕ → List ℕ → Type 0
@@ -83,10 +64,6 @@ module _ (above : List (List ℕ)) (made : List Bool) where
 
 -- ---- the first of them
 
-pub no-keys : (places : List ℕ) → (0 < length places → false ≡ true) → places ≡ []
-no-keys [] h = refl
-no-keys (p ∷ ps) h = absurd (let no : false ≡ true = h (omega arith) in cc)
-
 first_there : (i : ℕ) (made : List Bool) (xs : List (List ℕ)) (k : ℕ) → k < length xs → can_make made (i + k) (get_or xs k []) ≡ true →
     ((j : ℕ) → j < k → can_make made (i + j) (get_or xs j []) ≡ false) → first_from i made xs ≡ Some (i + k)
 first_there i made [] k below is none = absurd (omega (arith, below))
@@ -113,40 +90,40 @@ module _ (above : List (List ℕ)) (made : List Bool) where
   at_0 : (j : ℕ) (b : Bool) → makes j ≡ b → can_make made (0 + j) (get_or above j []) ≡ b
   at_0 j b h = subst (λ m. can_make made m (get_or above j []) ≡ b) (let e : j ≡ 0 + j = omega arith in e) h
 
-  pub free-none : AreFree [] above made → first_from 0 made above ≡ None
-  free-none free = first_nowhere 0 made above (λ j below. at_0 j false (elim (cases_Bool (makes j)) [
-    | inl is ↦ contains-none j ((free j).1 (below, is))
+  -- what can be made stands among these, and nothing else but what is made
+  abbrev pub AreQueued : List ℕ → Type 0
+  AreQueued places = ((i : ℕ) → IsFree above made i → Contains places i) × ((i : ℕ) → Contains places i → IsFree above made i ⊎ (get_or made i false ≡ true))
+
+  pub queued-free : (places : List ℕ) → AreFree places above made → AreQueued places
+  queued-free places free = ((λ i. (free i).1), (λ i c. inl ((free i).0 c)))
+
+  unmade : (i : ℕ) → IsFree above made i → get_or made i false ≡ false
+  unmade i h = of (get_or made i false) (and_parts (not (get_or made i false)) (list_all (λ j. get_or made j false) (get_or above i [])) h.1).0 where
+    of : (b : Bool) → not b ≡ true → b ≡ false
+    of false h = refl
+    of true h = absurd (cc)
+
+  pub queued-none : (places : List ℕ) → AreQueued places → ((i : ℕ) → Contains places i → get_or made i false ≡ true) → first_from 0 made above ≡ None
+  queued-none places queued none = first_nowhere 0 made above (λ j below. at_0 j false (elim (cases_Bool (makes j)) [
+    | inl is ↦ absurd (true-not-false (sym (none j (queued.0 j (below, is))) ∙ unmade j (below, is)))
     | inr other ↦ other
   ]))
 
-  pub free_within : (places : List ℕ) (k : ℕ) (rest : List ℕ) → AreFree places above made → places ≡ k ∷ rest → k < length above
-  free_within places k rest free is = ((free k).0 (subst (λ l. Contains l k) (sym is) (contains-first k rest))).0
+  module _ (k : ℕ) (old new : List ℕ) (queued : AreQueued old) (taken : IsTaken k made old new) where
+    pub taken-free : IsFree above made k
+    taken-free = elim (queued.1 k taken.there) [ inl free ↦ free | inr is ↦ absurd (true-not-false (sym is ∙ taken.unmade)) ]
 
-  above-first : (k : ℕ) (rest : List ℕ) → All (IsLtBy nat_cmp k) rest → (j : ℕ) → Contains rest j → k < j
-  above-first k rest h j c = let less : nat_cmp k j ≡ Less = All-contains (IsLtBy nat_cmp k) rest j h c in grind (arith, nat_tests)
-
-  pub free-first : (k : ℕ) (rest : List ℕ) → AreFree (k ∷ rest) above made → All (IsLtBy nat_cmp k) rest → first_from 0 made above ≡ Some k
-  free-first k rest free h =
-      let this : IsFree above made k = (free k).0 (contains-first k rest) in
-      subst (λ m. first_from 0 made above ≡ Some m) (let e : 0 + k ≡ k = omega arith in e)
-      (first_there 0 made above k this.0 (at_0 k true this.1) (λ j below. at_0 j false (elim (cases_Bool (makes j)) [
-        | inl is ↦
-            let within : j < length above = let t = this.0 in omega (arith, below, t) in
-            elim (contains-cases k j rest ((free j).1 (within, is))) [
-              | inl same ↦ absurd (omega (arith, below, same))
-              | inr further ↦ absurd (let more = above-first k rest h j further in omega (arith, below, more))
-            ]
-        | inr other ↦ other
-      ])))
+    pub taken-first : first_from 0 made above ≡ Some k
+    taken-first =
+        subst (λ m. first_from 0 made above ≡ Some m) (let e : 0 + k ≡ k = omega arith in e)
+        (first_there 0 made above k taken-free.0 (at_0 k true taken-free.1) (λ j below. at_0 j false (elim (cases_Bool (makes j)) [
+          | inl is ↦
+              let within : j < length above = let t = taken-free.0 in omega (arith, below, t) in
+              absurd (let least = taken.least j (queued.0 j (within, is)) (unmade j (within, is)) in omega (arith, below, least))
+          | inr other ↦ other
+        ])))
 
 -- ---- one element more is made
-
-and_parts : (a b : Bool) → (a && b) ≡ true → (a ≡ true) × (b ≡ true)
-and_parts true b h = (refl, h)
-and_parts false b h = absurd (cc)
-
-true-not-false : true ≡ false → ⊥
-true-not-false h = absurd (cc)
 
 marked-within : (made : List Bool) (k : ℕ) → get_or made k false ≡ true → k < length made
 marked-within [] k h = absurd (cc)
@@ -201,20 +178,30 @@ module _ (above : List (List ℕ)) (made : List Bool) (k : ℕ) (marked : k < le
         | inr some ↦ inr (marks-new made k (get_or above i []) some p.1)
       ]
 
-  pub free-made : (below : List (List ℕ)) (rest now : List ℕ) → AreChildren below above → AreFree (k ∷ rest) above made → All (IsLtBy nat_cmp k) rest →
-      ((i : ℕ) → Contains now i ↔ (Contains rest i ⊎ (Contains (get_or below k []) i × IsFree above (slice_set made k true) i))) →
-      AreFree now above (slice_set made k true)
-  free-made below rest now children free h added i = (to, from) where
-    to : Contains now i → IsFree above (slice_set made k true) i
-    to c = elim ((added i).0 c) [
-      | inl before ↦
-          let more = above-first above made k rest h i before in
-          free-kept i (λ same. absurd (omega (arith, more, same))) ((free i).0 (contains-rest k i rest before))
-      | inr new ↦ new.1
-    ]
+  kept-mark : (i : ℕ) → get_or made i false ≡ true → get_or (slice_set made k true) i false ≡ true
+  kept-mark i h = elim (cases_eq i k) [
+    | inl same ↦ subst (λ j. get_or (slice_set made k true) j false ≡ true) (sym same) (get_or-set_same made k true false marked)
+    | inr other ↦ get_or-set_other made k i true false other ∙ h
+  ]
 
-    from : IsFree above (slice_set made k true) i → Contains now i
-    from is = (added i).1 (elim (free-new i is) [
-      | inl before ↦ inl (elim (contains-cases k i rest ((free i).1 before)) [ inl same ↦ absurd (not-itself i is (sym same)) | inr further ↦ further ])
+  pub taken-made : (below : List (List ℕ)) (old new now : List ℕ) → AreChildren below above → AreQueued above made old → IsTaken k made old new →
+      AreFreeOf above (slice_set made k true) new (get_or below k []) now → AreQueued above (slice_set made k true) now
+  taken-made below old new now children queued taken added = (from, to) where
+    from : (i : ℕ) → IsFree above (slice_set made k true) i → Contains now i
+    from i is = (added i).1 (elim (free-new i is) [
+      | inl before ↦ inl (elim (taken.kept i (queued.0 i before) (unmade above made i before)) [ inl same ↦ absurd (not-itself i is (sym same)) | inr further ↦ further ])
       | inr child ↦ inr ((children k i).1 child, is)
     ])
+
+    stays : (i : ℕ) → IsFree above made i ⊎ (get_or made i false ≡ true) → IsFree above (slice_set made k true) i ⊎ (get_or (slice_set made k true) i false ≡ true)
+    stays i (inr is) = inr (kept-mark i is)
+    stays i (inl free) = elim (cases_eq i k) [
+      | inl same ↦ inr (subst (λ j. get_or (slice_set made k true) j false ≡ true) (sym same) (get_or-set_same made k true false marked))
+      | inr other ↦ inl (free-kept i other free)
+    ]
+
+    to : (i : ℕ) → Contains now i → IsFree above (slice_set made k true) i ⊎ (get_or (slice_set made k true) i false ≡ true)
+    to i c = elim ((added i).0 c) [
+      | inl before ↦ stays i (queued.1 i (taken.within i before))
+      | inr new ↦ inl new.1
+    ]

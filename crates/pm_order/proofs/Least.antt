@@ -15,7 +15,7 @@ ranked_some xs n (suc m) e made h is = rw h (ap (λ k. e ∷ ranked xs k (slice_
 
 -- ---- the places are ones that there are
 
-first-within : (i : ℕ) (made : List Bool) (xs : List (List ℕ)) (k : ℕ) → first_from i made xs ≡ Some k → k < i + length xs
+pub first-within : (i : ℕ) (made : List Bool) (xs : List (List ℕ)) (k : ℕ) → first_from i made xs ≡ Some k → k < i + length xs
 first-within i made [] k h = absurd (cc)
 first-within i made (x ∷ xs) k h = elim (cases_Bool (can_make made i x)) [
   | inl is ↦ let same : i ≡ k = (let found = rw is at h in cc) in omega (arith, same)

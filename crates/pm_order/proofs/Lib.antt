@@ -1,8 +1,10 @@
 pub mod Children
+pub mod Due
 pub mod Free
 pub mod Least
 pub mod Others
 pub mod Placed
+pub mod Queued
 pub mod Ranks
 pub mod Standing
 pub mod Whole

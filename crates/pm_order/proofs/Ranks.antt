@@ -67,7 +67,7 @@ length-set-same (b ∷ bs) (suc k) = let rest = length-set-same bs k in omega (a
 abbrev pub first_marked : ℕ → ℕ → List Bool
 first_marked k m = replicate k true ++ replicate m false
 
-none-marked : (m i : ℕ) → get_or (replicate m false) i false ≡ false
+pub none-marked : (m i : ℕ) → get_or (replicate m false) i false ≡ false
 none-marked zero i = refl
 none-marked (suc m) zero = refl
 none-marked (suc m) (suc i) = none-marked m i

@@ -1,5 +1,5 @@
 -- The order of elements by their places in a list. The project's own.
-use Rattle.std.specs.Prelude.{ℕ, zero, suc, ◌+◌, ◌<◌, ◌≡◌, ◌↔◌, ◌⊎◌, Bool, true, false, not, nat_lt, ◌==◌, ◌&&◌, ◌||◌, List, [], ◌∷◌, length, map, filter, get_or, slice_get, slice_set, Contains, Option, None, Some, option_map, if◌then◌else◌}
+use Rattle.std.specs.Prelude.{ℕ, zero, suc, ◌+◌, ◌<◌, ◌≤◌, ◌≡◌, ◌↔◌, ◌⊎◌, Bool, true, false, not, nat_lt, ◌==◌, ◌&&◌, ◌||◌, List, [], ◌∷◌, length, map, filter, get_or, slice_get, slice_set, Contains, Option, None, Some, option_map, if◌then◌else◌}
 use Rattle.std.specs.List.{list_all}
 use Rattle.pm_model.specs.declared.elements.Kind.TheVariants.{Pc}
 use Rattle.pm_policy.specs.Policy.{doc_element, is_assigned, is_called}
@@ -58,6 +58,22 @@ IsFree above made i = (i < length above) × (can_make made i (get_or above i [])
 -- these are all such places
 abbrev pub AreFree : List ℕ → List (List ℕ) → List Bool → Type 0
 AreFree places above made = (i : ℕ) → Contains places i ↔ IsFree above made i
+
+-- the place is taken out of these, with some that are made: of those that aren't it is the least
+pub record IsTaken (k : ℕ) (made : List Bool) (old new : List ℕ) : Type 0 where
+  pub there : Contains old k
+  pub unmade : get_or made k false ≡ false
+  pub least : (i : ℕ) → Contains old i → get_or made i false ≡ false → k ≤ i
+  pub kept : (i : ℕ) → Contains old i → get_or made i false ≡ false → (k ≡ i) ⊎ Contains new i
+  pub within : (i : ℕ) → Contains new i → Contains old i
+
+-- no further element can be made
+abbrev pub IsStuck : List (List ℕ) → List Bool → Type 0
+IsStuck above made = (i : ℕ) → IsFree above made i → ⊥
+
+-- these are made in the end, whatever the order
+abbrev pub AreDue : List (List ℕ) → List Bool → Type 0
+AreDue above made = (end : List Bool) → IsStuck above end → (i : ℕ) → get_or made i false ≡ true → get_or end i false ≡ true
 
 -- the first place from i on at which it can be made; the containers of each stand in its place
 abbrev pub first_from : ℕ → List Bool → List (List ℕ) → Option ℕ

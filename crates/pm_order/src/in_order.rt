@@ -3,7 +3,7 @@
 ghost use Rattle.std.specs.Prelude.{◌≡◌, ◌↔◌, List, map, true, IfOk};
 ghost use Rattle.pm_model.specs.Name.{is_name};
 ghost use Rattle.pm_order.specs.Ranked.{containers, turn, AreWithin};
-ghost use Rattle.pm_policy.specs.Order.{order};
+ghost use Rattle.pm_policy.specs.Order.{order, sorted, stands_before};
 ghost use Rattle.pm_policy.specs.Policy.{doc_element, standing};
 ghost use Rattle.pm_policy.specs.Requests.{others};
 ghost use Rattle.pm_policy.specs.Sound.{AreOnceAssigned, AreOnceCalled, IsAcyclic};
@@ -14,7 +14,8 @@ ghost use Rattle.pm_policy.specs.declared.policy.DocElement.{DocElement};
 use crate::creation::{Turn, turns_at};
 use crate::places::{Containers, links};
 use crate::turns::turns;
-use pm_by_name::elements_by_name;
+use crate::walks::count_turns;
+use pm_by_name::{are_elements_in_order, elements_by_name};
 use pm_model::{Kind, Memory, Name};
 use pm_policy::{DocAssignment, DocElement};
 use std::alloc::Global;
@@ -30,16 +31,28 @@ fn element(kind: Kind, name: &str) -> DocElement
     DocElement { kind, name }
 }
 
-/// The elements behind those of the opening. Their own list goes back at once, so that what is made next has its memory.
-fn standing(alloc: Global, elements: Vec<DocElement>) -> Result<Vec<DocElement>, Memory>
-    ensures { IfOk result (λ v. v.items ≡ standing elements.items) }
+/// The elements behind those of the opening.
+fn standing(alloc: Global, elements: &[DocElement]) -> Result<Vec<DocElement>, Memory>
+    ensures { IfOk result (λ v. v.items ≡ standing elements.now) }
 {
     let mut all = Vec::new(alloc);
     all.push(element(Kind::Pc, "pm"))?;
     all.push(element(Kind::Ua, "pm_admins"))?;
     all.push(element(Kind::User, "root"))?;
-    all.extend_from_slice(elements.as_slice())?;
+    all.extend_from_slice(elements)?;
     Ok(all)
+}
+
+/// The elements by name behind those of the opening. Those that stand so are copied once.
+fn standing_by_name(alloc: Global, elements: &[DocElement]) -> Result<Vec<DocElement>, Memory>
+    requires { AreOnceCalled elements.now }
+    ensures { IfOk result (λ v. v.items ≡ standing (sorted stands_before elements.now)) }
+{
+    if are_elements_in_order(elements) {
+        return standing(alloc, elements);
+    }
+    let by_name = elements_by_name(alloc, elements)?;
+    standing(alloc, by_name.as_slice())
 }
 
 /// How the elements and assignments of a document are made: the elements by turns, and the assignments that none of them is
@@ -72,8 +85,7 @@ pub fn order(
     ensures turns { IfOk result (λ m. m.turns.items ≡ map (turn pairs.now) (order pairs.now elements.now)) }
     ensures others { IfOk result (λ m. m.others.items ≡ others elements.now pairs.now) }
 {
-    let by_name = elements_by_name(alloc, elements)?;
-    let all = standing(alloc, by_name)?;
+    let all = standing_by_name(alloc, elements)?;
     let (containers, others) = links(alloc, all.as_slice(), pairs, OPENING)?;
     let places = turns(alloc, containers.lists(), OPENING)?;
     let turns = turns_at(alloc, all.as_slice(), &containers, places.as_slice())?;
@@ -86,6 +98,6 @@ pub fn has_order(alloc: Global, above: &Containers) -> Result<bool, Memory>
     requires { AreWithin above.now }
     ensures { IfOk result (λ found. (es : List DocElement) (pairs : List DocAssignment) → AreOnceCalled es → AreKnown pairs es → above.now ≡ containers es pairs → (found ≡ true) ↔ IsAcyclic pairs) }
 {
-    let turns = turns(alloc, above.lists(), 0)?;
-    Ok(turns.len() == above.lists().len())
+    let count = count_turns(alloc, above.lists())?;
+    Ok(count == above.lists().len())
 }

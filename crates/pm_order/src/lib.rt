@@ -3,8 +3,11 @@
 
 mod creation;
 mod in_order;
+mod lists;
 mod places;
+mod queue;
 mod turns;
+mod walks;
 
 pub use creation::Turn;
 pub use in_order::{Making, has_order, order};

@@ -8,8 +8,9 @@ ghost use Rattle.pm_policy.specs.Sound.{AreOnce, AreOnceAssigned, AreOnceCalled}
 ghost use Rattle.pm_policy.specs.Waiting.{AreKnown};
 ghost use Rattle.pm_policy.specs.declared.policy.DocElement.{DocElement};
 
+use crate::lists::PlaceList;
 use indexmap::IndexSet;
-use pm_model::{ItemList, Memory, Name};
+use pm_model::{Memory, Name};
 use pm_policy::{DocAssignment, DocElement};
 use std::alloc::Global;
 use std::marker::Model;
@@ -80,17 +81,17 @@ impl Places {
     }
 }
 
-fn empty_lists(alloc: Global, count: usize) -> Result<Vec<ItemList<usize>>, Memory>
+fn empty_lists(alloc: Global, count: usize) -> Result<Vec<PlaceList>, Memory>
     ensures { IfOk result (λ v. v.items ≡ replicate count []) }
 {
     let mut lists = Vec::with_capacity(alloc, count)?;
     for _ in 0..count {
-        lists.push(ItemList::new(alloc))?;
+        lists.push(PlaceList::new(alloc))?;
     }
     Ok(lists)
 }
 
-fn add(lists: &mut [ItemList<usize>], at: usize, item: usize) -> Result<(), Memory>
+fn add(lists: &mut [PlaceList], at: usize, item: usize) -> Result<(), Memory>
     requires { at < length lists.old }
     ensures { OnOk result (lists.new ≡ slice_set lists.old at (get_or lists.old at [] ++ item ∷ [])) }
 {
@@ -99,7 +100,7 @@ fn add(lists: &mut [ItemList<usize>], at: usize, item: usize) -> Result<(), Memo
 
 /// The containers of elements, all by their places from 0 on. Contracts see the list of their lists.
 pub struct Containers {
-    lists: Vec<ItemList<usize>>,
+    lists: Vec<PlaceList>,
 }
 
 impl Drop for Containers {
@@ -142,7 +143,7 @@ impl Containers {
     }
 
     /// The lists of all elements.
-    pub(crate) fn lists(&self) -> &[ItemList<usize>]
+    pub(crate) fn lists(&self) -> &[PlaceList]
         ensures { result.now ≡ self.now }
     {
         self.lists.as_slice()
@@ -195,7 +196,7 @@ pub(crate) fn links(
 }
 
 /// Adds an item to the list of each of these places.
-fn add_to_each(lists: &mut [ItemList<usize>], places: &[usize], item: usize) -> Result<(), Memory>
+fn add_to_each(lists: &mut [PlaceList], places: &[usize], item: usize) -> Result<(), Memory>
     requires { (k : ℕ) → Contains places.now k → k < length lists.old }
     ensures { OnOk result (AreAdded item places.now lists.old lists.new) }
 {
@@ -206,10 +207,7 @@ fn add_to_each(lists: &mut [ItemList<usize>], places: &[usize], item: usize) -> 
 }
 
 /// The elements that each is a container of, by their places.
-pub(crate) fn children(
-    alloc: Global,
-    containers: &[ItemList<usize>],
-) -> Result<Vec<ItemList<usize>>, Memory>
+pub(crate) fn children(alloc: Global, containers: &[PlaceList]) -> Result<Vec<PlaceList>, Memory>
     requires { AreWithin containers.now }
     ensures count { IfOk result (λ v. length v.items ≡ length containers.now) }
     ensures children { IfOk result (λ v. AreChildren v.items containers.now) }

@@ -1,13 +1,14 @@
 //! The turns of elements, by their places.
 
-ghost use Rattle.std.specs.Prelude.{◌≡◌, ◌++◌, ◌≤◌, ◌<◌, ◌-◌, ◌⊎◌, ◌↔◌, ℕ, length, get_or, true, false, replicate, vec_len, Contains, IfOk, OnOk};
+ghost use Rattle.std.specs.Prelude.{◌≡◌, ◌++◌, ◌≤◌, ◌<◌, ◌-◌, ◌⊎◌, ◌↔◌, ℕ, length, get_or, true, false, replicate, vec_len, Contains, None, IfOk, IfSome, OnOk};
 ghost use Rattle.std.specs.List.{list_all};
-ghost use Rattle.pm_order.specs.Ranked.{can_make, ranked, AreChildren, AreFree, AreWithin, IsFree};
+ghost use Rattle.pm_order.specs.Ranked.{can_make, ranked, AreChildren, AreFree, AreWithin, IsFree, IsTaken};
 
+use crate::lists::PlaceList;
 use crate::places::children;
-use pm_model::{ItemList, Memory};
+use crate::queue::Queue;
+use pm_model::Memory;
 use std::alloc::Global;
-use std::collections::BTreeSet;
 
 fn is_made(made: &[bool], place: usize) -> bool
     ensures { result ≡ get_or made.now place false }
@@ -24,7 +25,8 @@ fn all_made(made: &[bool], places: &[usize]) -> bool
     places.iter().all(|k| is_made(made, *k))
 }
 
-fn can_make(made: &[bool], place: usize, containers: &ItemList<usize>) -> bool
+/// Whether an element can be made at the place, where these are its containers.
+pub(crate) fn can_make(made: &[bool], place: usize, containers: &PlaceList) -> bool
     requires { place < length made.now }
     ensures { result ≡ can_make made.now place containers.now }
 {
@@ -33,31 +35,27 @@ fn can_make(made: &[bool], place: usize, containers: &ItemList<usize>) -> bool
 
 /// Adds the place, if an element can be made there.
 fn add_if_free(
-    free: &mut BTreeSet<usize>,
+    free: &mut Queue,
     made: &[bool],
-    containers: &[ItemList<usize>],
+    containers: &[PlaceList],
     place: usize,
 ) -> Result<(), Memory>
     requires made { length containers.now ≤ length made.now }
     requires place { place < length containers.now }
-    ensures { OnOk result ((i : ℕ) → Contains free.new.keys i ↔ (Contains free.old.keys i ⊎ ((i ≡ place) × IsFree containers.now made.now i))) }
+    ensures { OnOk result ((i : ℕ) → Contains free.new i ↔ (Contains free.old i ⊎ ((i ≡ place) × IsFree containers.now made.now i))) }
 {
     if can_make(made, place, &containers[place]) {
-        free.insert(place)?;
+        free.push(place)?;
     }
     Ok(())
 }
 
 /// The places at which an element can be made.
-fn all_free(
-    alloc: Global,
-    made: &[bool],
-    containers: &[ItemList<usize>],
-) -> Result<BTreeSet<usize>, Memory>
+fn all_free(alloc: Global, made: &[bool], containers: &[PlaceList]) -> Result<Queue, Memory>
     requires { length containers.now ≤ length made.now }
-    ensures { IfOk result (λ free. AreFree free.keys containers.now made.now) }
+    ensures { IfOk result (λ free. AreFree free containers.now made.now) }
 {
-    let mut free = BTreeSet::new(alloc);
+    let mut free = Queue::new(alloc);
     for place in 0..containers.len() {
         add_if_free(&mut free, made, containers, place)?;
     }
@@ -66,19 +64,32 @@ fn all_free(
 
 /// Adds those of the places at which an element can be made.
 fn add_free(
-    free: &mut BTreeSet<usize>,
+    free: &mut Queue,
     made: &[bool],
-    containers: &[ItemList<usize>],
+    containers: &[PlaceList],
     places: &[usize],
 ) -> Result<(), Memory>
     requires made { length containers.now ≤ length made.now }
     requires places { (i : ℕ) → Contains places.now i → i < length containers.now }
-    ensures { OnOk result ((i : ℕ) → Contains free.new.keys i ↔ (Contains free.old.keys i ⊎ (Contains places.now i × IsFree containers.now made.now i))) }
+    ensures { OnOk result ((i : ℕ) → Contains free.new i ↔ (Contains free.old i ⊎ (Contains places.now i × IsFree containers.now made.now i))) }
 {
     for place in places {
         add_if_free(free, made, containers, *place)?;
     }
     Ok(())
+}
+
+/// Takes out the least place that isn't made, with those before it.
+fn first_unmade(places: &mut Queue, made: &[bool]) -> Option<usize>
+    ensures none { result ≡ None → (i : ℕ) → Contains places.old i → get_or made.now i false ≡ true }
+    ensures some { IfSome result (λ k. IsTaken k made.now places.old places.new) }
+{
+    while let Some(place) = places.pop() {
+        if !is_made(made, place) {
+            return Some(place);
+        }
+    }
+    None
 }
 
 /// Marks of so many that are made and so many that aren't.
@@ -95,11 +106,10 @@ fn marks(alloc: Global, made: usize, count: usize) -> Result<Vec<bool>, Memory>
 
 /// The places of at most so many elements, always the first that can be made. Only what has the last one for a container may
 /// have become free.
-#[tactic(auto, using(crate::proofs::Free::free_within))]
 fn ranked(
     alloc: Global,
-    containers: &[ItemList<usize>],
-    children: &[ItemList<usize>],
+    containers: &[PlaceList],
+    children: &[PlaceList],
     mut made: Vec<bool>,
     most: usize,
 ) -> Result<Vec<usize>, Memory>
@@ -111,7 +121,7 @@ fn ranked(
     let mut free = all_free(alloc, made.as_slice(), containers)?;
     let mut out = Vec::with_capacity(alloc, most)?;
     for _ in 0..most {
-        match free.pop_first() {
+        match first_unmade(&mut free, made.as_slice()) {
             None => return Ok(out),
             Some(place) => {
                 made[place] = true;
@@ -132,7 +142,7 @@ fn ranked(
 /// whose containers are all made.
 pub(crate) fn turns(
     alloc: Global,
-    containers: &[ItemList<usize>],
+    containers: &[PlaceList],
     made: usize,
 ) -> Result<Vec<usize>, Memory>
     requires within { AreWithin containers.now }

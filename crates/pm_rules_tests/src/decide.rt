@@ -10,8 +10,8 @@ ghost use Rattle.pm_model.specs.declared.rights.Grantee.{Grantee};
 use Told::{Granted, NoClass, Prohibited};
 use pm_decide::{Verdict, decide, privilege};
 use pm_model::{
-    Bars, ClassList, ElementId, Grant, Grantee, Grants, ItemList, Memory, Mode, Name, PlaceList,
-    Prohibition, Reach, Rights, Subject,
+    Bars, ClassList, ElementId, Grant, GrantList, Grantee, Grants, ItemList, Memory, Mode, Name,
+    PlaceList, Prohibition, Reach, Rights, Subject,
 };
 use std::alloc::Global;
 use std::process::Abort;
@@ -392,7 +392,7 @@ struct Lists {
 fn groups(alloc: Global, graph: &Graph) -> Result<Associations, Fail> {
     let mut groups = Associations::new(alloc);
     for (ua, pairs) in graph.grants {
-        let mut grants = ItemList::new(alloc);
+        let mut grants = GrantList::new(alloc);
         for (rights, at) in *pairs {
             let rights = Rights(*rights);
             let at = ElementId(*at);

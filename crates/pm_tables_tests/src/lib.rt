@@ -7,6 +7,8 @@ mod assoc;
 #[cfg(test)]
 mod deny;
 #[cfg(test)]
+mod grants;
+#[cfg(test)]
 mod history;
 #[cfg(test)]
 mod kept;

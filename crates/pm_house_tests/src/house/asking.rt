@@ -4,7 +4,6 @@ use pm_house::{Home, House, Looked, Seat};
 use pm_io::NoKeep;
 use pm_machine::Version;
 use pm_model::{Body, Command, ElementId, Kind, Name, NameList, Reason, Refusal, Reply, Request};
-use pm_step::Edition;
 use std::alloc::Global;
 use std::process::Abort;
 use std::sync::Wait;
@@ -120,10 +119,10 @@ pub(crate) fn policy(n: u32) -> Ask {
 }
 
 /// What the desk tells, and the version that it names.
-pub(crate) fn submit<H: Home, R: Threads + Wait + Abort + Alloc<A = Global> + Sync>(
+pub(crate) fn submit<V: Version, H: Home, R: Threads + Wait + Abort + Alloc<A = Global> + Sync>(
     rt: &R,
-    house: &House<Edition, NoKeep, H>,
-    seat: &mut Seat<Edition, H>,
+    house: &House<V, NoKeep, H>,
+    seat: &mut Seat<V, H>,
     request: &Request,
 ) -> (Told, u64) {
     let replied = seat
@@ -133,10 +132,10 @@ pub(crate) fn submit<H: Home, R: Threads + Wait + Abort + Alloc<A = Global> + Sy
 }
 
 /// The desk tells this, at this version.
-pub(crate) fn is_told<H: Home, R: Threads + Wait + Abort + Alloc<A = Global> + Sync>(
+pub(crate) fn is_told<V: Version, H: Home, R: Threads + Wait + Abort + Alloc<A = Global> + Sync>(
     rt: &R,
-    house: &House<Edition, NoKeep, H>,
-    seat: &mut Seat<Edition, H>,
+    house: &House<V, NoKeep, H>,
+    seat: &mut Seat<V, H>,
     request: &Request,
     told: Told,
     version: u64,
@@ -145,9 +144,9 @@ pub(crate) fn is_told<H: Home, R: Threads + Wait + Abort + Alloc<A = Global> + S
 }
 
 /// What a look tells, and the version that it names; None where the desk is needed.
-pub(crate) fn look<H: Home, R: Threads + Abort + Sync>(
+pub(crate) fn look<V: Version, H: Home, R: Threads + Abort + Sync>(
     rt: &R,
-    seat: &mut Seat<Edition, H>,
+    seat: &mut Seat<V, H>,
     request: &Request,
 ) -> Option<(Told, u64)> {
     match seat.look(rt, request).expect(rt, "memory") {
@@ -157,9 +156,9 @@ pub(crate) fn look<H: Home, R: Threads + Abort + Sync>(
 }
 
 /// A look tells this.
-pub(crate) fn is_seen<H: Home, R: Threads + Abort + Sync>(
+pub(crate) fn is_seen<V: Version, H: Home, R: Threads + Abort + Sync>(
     rt: &R,
-    seat: &mut Seat<Edition, H>,
+    seat: &mut Seat<V, H>,
     request: &Request,
     told: Option<(Told, u64)>,
 ) {
@@ -167,7 +166,7 @@ pub(crate) fn is_seen<H: Home, R: Threads + Abort + Sync>(
 }
 
 /// Looks so many times, and says whether no version was below the one before.
-pub(crate) fn never_falls<H: Home>(seat: &mut Seat<Edition, H>, turns: u64) -> bool {
+pub(crate) fn never_falls<V: Version, H: Home>(seat: &mut Seat<V, H>, turns: u64) -> bool {
     for _ in 0..turns {
         let before = seat.shown().version();
         if seat.version() < before {
@@ -178,12 +177,11 @@ pub(crate) fn never_falls<H: Home>(seat: &mut Seat<Edition, H>, turns: u64) -> b
 }
 
 /// Starts so many processes, and says whether each was started.
-pub(crate) fn start_processes<H: Home, R: Threads + Wait + Abort + Alloc<A = Global> + Sync>(
-    rt: &R,
-    house: &House<Edition, NoKeep, H>,
-    seat: &mut Seat<Edition, H>,
-    count: u64,
-) -> bool {
+pub(crate) fn start_processes<
+    V: Version,
+    H: Home,
+    R: Threads + Wait + Abort + Alloc<A = Global> + Sync,
+>(rt: &R, house: &House<V, NoKeep, H>, seat: &mut Seat<V, H>, count: u64) -> bool {
     for _ in 0..count {
         let (told, _) = submit(rt, house, seat, &request(rt, Ask::Start(0)));
         if told != Told::Done {

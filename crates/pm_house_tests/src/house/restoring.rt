@@ -22,12 +22,12 @@ fn entry<R: Abort + Alloc<A = Global>>(rt: &R, seat: u32, nth: u64, name: &'stat
     Entry { seat, nth, request }
 }
 
-fn restored<H: Home, R: Threads + Wait + Abort + Alloc<A = Global> + Sync>(
+fn restored<V: Version, H: Home, R: Threads + Wait + Abort + Alloc<A = Global> + Sync>(
     rt: &R,
     opened: Opened,
     blank: Blank,
     entries: &[Entry],
-) -> Result<(House<Edition, NoKeep, H>, Seats<Edition, H>), RestoreError>
+) -> Result<(House<V, NoKeep, H>, Seats<V, H>), RestoreError>
     requires room { opened ≡ H.book }
     requires ledger { (blank.name ≡ H.name) × (blank.parts ≡ H.parts) }
     requires seats { (H.all ≡ 2) × (H.parts ≡ 2) }
@@ -45,16 +45,16 @@ fn restored<H: Home, R: Threads + Wait + Abort + Alloc<A = Global> + Sync>(
 }
 
 // What a seat shows, and how many entries it has made.
-fn standing<H: Home>(seat: &Seat<Edition, H>) -> (u32, u64, u64) {
+fn standing<V: Version, H: Home>(seat: &Seat<V, H>) -> (u32, u64, u64) {
     (seat.number(), seat.shown().version(), seat.made())
 }
 
 // Each seat makes one entry more.
-fn both_go_on<H: Home, R: Threads + Wait + Abort + Alloc<A = Global> + Sync>(
+fn both_go_on<V: Version, H: Home, R: Threads + Wait + Abort + Alloc<A = Global> + Sync>(
     rt: &R,
-    house: &House<Edition, NoKeep, H>,
-    one: &mut Seat<Edition, H>,
-    two: &mut Seat<Edition, H>,
+    house: &House<V, NoKeep, H>,
+    one: &mut Seat<V, H>,
+    two: &mut Seat<V, H>,
 ) {
     assert_eq!(rt; (standing(one), standing(two)), ((0, 3, 2), (1, 3, 1)));
     is_told(rt, house, one, &request(rt, Ask::Class("d")), Told::Done, 4);
@@ -63,7 +63,7 @@ fn both_go_on<H: Home, R: Threads + Wait + Abort + Alloc<A = Global> + Sync>(
     assert_eq!(rt; (standing(one), standing(two)), ((0, 4, 3), (1, 5, 2)));
 }
 
-fn three_entries<H: Home, R: Threads + Wait + Abort + Alloc<A = Global> + Sync>(
+fn three_entries<V: Version, H: Home, R: Threads + Wait + Abort + Alloc<A = Global> + Sync>(
     rt: &R,
     opened: Opened,
     blank: Blank,
@@ -77,7 +77,7 @@ fn three_entries<H: Home, R: Threads + Wait + Abort + Alloc<A = Global> + Sync>(
         entry(rt, 1, 1, "b"),
         entry(rt, 0, 2, "c"),
     ];
-    let Ok((house, mut seats)) = restored::<H, R>(rt, opened, blank, &entries) else {
+    let Ok((house, mut seats)) = restored::<V, H, R>(rt, opened, blank, &entries) else {
         panic!(rt; "not restored")
     };
     let mut one = seats.seat(0).expect(rt, "seat 0");
@@ -88,5 +88,5 @@ fn three_entries<H: Home, R: Threads + Wait + Abort + Alloc<A = Global> + Sync>(
 #[test]
 fn a_house_goes_on_from_a_history(rt: HostRuntime) {
     let (opened, blank) = house_room(2);
-    three_entries::<Brand, _>(&rt, opened, blank)
+    three_entries::<Edition, Brand, _>(&rt, opened, blank)
 }

@@ -1,7 +1,6 @@
-use Rattle.std.proofs.Common.{◌≡◌, ◌≤◌, ℕ, List, length, arith, rules}
-use Rattle.std.proofs.lemmas.Fn.{filter_same}
+use Rattle.std.proofs.Common.{◌≡◌, ◌≤◌, ℕ, List, length, arith}
+use Rattle.pm_model.specs.Grants.{grants_off}
 use Rattle.pm_model.specs.declared.rights.Grant.{Grant}
-use Rattle.pm_assoc.specs.Grantees.{grants_off}
 use Rattle.pm_assoc.proofs.Removed.{length-grants_off}
 use Rattle.pm_assoc.proofs.grantees.take_out.Goals as goal
 
@@ -10,14 +9,7 @@ fewer : (at : ℕ) (old new : List Grant) → new ≡ grants_off at old → leng
 fewer at old new off = rw off (length-grants_off at old)
 
 pub overflow_sub-result : goal.overflow_sub-result
-overflow_sub-result c =
-    let off : c.retain.new.self ≡ grants_off c.args.at c.args.grants.now = filter_same _ _ _ (λ x b f' k. search rules) _ _ c.retain.ensures in
-    let l = fewer c.args.at c.args.grants.now c.retain.new.self off in omega (arith, l)
-
-pub returns-clause-grants : goal.returns-clause-grants
-returns-clause-grants c = filter_same _ _ _ (λ x b f' k. search rules) _ _ c.retain.ensures
+overflow_sub-result c = let l = fewer c.args.at c.args.grants.now c.take_off.new.self c.take_off.ensures in omega (arith, l)
 
 pub returns-clause-count : goal.returns-clause-count
-returns-clause-count c =
-    let off : c.retain.new.self ≡ grants_off c.args.at c.args.grants.now = filter_same _ _ _ (λ x b f' k. search rules) _ _ c.retain.ensures in
-    let l = fewer c.args.at c.args.grants.now c.retain.new.self off in omega (arith, l)
+returns-clause-count c = let l = fewer c.args.at c.args.grants.now c.take_off.new.self c.take_off.ensures in omega (arith, l)

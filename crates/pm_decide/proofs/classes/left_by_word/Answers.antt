@@ -19,8 +19,8 @@ loop-unasked-init g c =
       leaving = leaving-begun c.args.classes.now whole whole c.args.unmet (λ pc. refl);
     }
 
-pub left_by_grants-left-requires-clause-grantee : goal.left_by_grants-left-requires-clause-grantee
-left_by_grants-left-requires-clause-grantee g c =
+pub left_by_grantee-left-requires-clause-grantee : goal.left_by_grantee-left-requires-clause-grantee
+left_by_grantee-left-requires-clause-grantee g c =
     rw c.loop-unasked.invariant.same (found-in (GranteeLive (g.R.Reach.relation c.args.reach.now)) (64 * c.args.k + c.lowest-i.result)
     (g.G.Grants.grantees c.args.grants.now) c.grantee-grantee.result.now c.grantee-grantee.ensures c.requires.grants)
 
@@ -38,15 +38,15 @@ loop-unasked-preserved g c =
     let unasked = c.loop-unasked.unasked in
     let after = c.without_bit-unasked.result in
     let g1 = c.grantee-grantee.result.now in
-    let left = rw c.loop-unasked.invariant.same at c.left_by_grants-left.ensures.left in
+    let left = rw c.loop-unasked.invariant.same at c.left_by_grantee-left.ensures.left in
     record {
-      same = c.left_by_grants-left.ensures.same ∙ c.loop-unasked.invariant.same;
-      classes = left-live relation (λ pc. test pc g1) pcs c.loop-unasked.left c.left_by_grants-left.result c.loop-unasked.invariant.classes left;
+      same = c.left_by_grantee-left.ensures.same ∙ c.loop-unasked.invariant.same;
+      classes = left-live relation (λ pc. test pc g1) pcs c.loop-unasked.left c.left_by_grantee-left.result c.loop-unasked.invariant.classes left;
       holders = holders-left k unasked c.lowest-i.result c.lowest-i.ensures.within c.lowest-i.ensures.set after c.without_bit-unasked.ensures.rest grantees
           c.loop-unasked.invariant.holders;
       leaving = leaving-more pcs (λ pc. test pc g1) (λ pc. some_of (in_word k after) (test pc) grantees)
           (λ pc. some_of (in_word k unasked) (test pc) grantees) (λ pc. some_of (in_word k c.args.word) (test pc) grantees)
-          c.args.unmet c.loop-unasked.left c.left_by_grants-left.result c.loop-unasked.invariant.leaving left
+          c.args.unmet c.loop-unasked.left c.left_by_grantee-left.result c.loop-unasked.invariant.leaving left
           (λ pc. hit-first k unasked c.lowest-i.result c.lowest-i.ensures.within c.lowest-i.ensures.set after c.without_bit-unasked.ensures.rest
           grantees g1 c.grantee-grantee.ensures (test pc));
     }

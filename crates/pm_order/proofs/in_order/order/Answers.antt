@@ -13,14 +13,14 @@ use Rattle.pm_order.proofs.Ranks.{turns-same}
 use Rattle.pm_order.proofs.Standing.{elements_alone, standing_known, standing_once, standing_order}
 use Rattle.pm_order.proofs.in_order.order.Goals as goal
 
-pub elements_by_name-requires : goal.elements_by_name-requires
-elements_by_name-requires c = elements_alone c.args.elements.now c.requires.once
+pub standing_by_name-requires : goal.standing_by_name-requires
+standing_by_name-requires c = elements_alone c.args.elements.now c.requires.once
 
 pub links-requires : goal.links-requires
 links-requires c =
     let es = c.args.elements.now in
     let all : c.as_slice.result.now ≡ standing (sorted stands_before es) =
-    c.as_slice.ensures.value ∙ c.in_ok-all.ensures ∙ ap standing c.in_ok-by_name.ensures in
+    c.as_slice.ensures.value ∙ c.in_ok-all.ensures in
     record {
       once = subst (λ l. AreOnceCalled l) (sym all) (standing_once es c.requires.once);
       known = subst (λ l. AreKnown c.args.pairs.now l) (sym all) (standing_known es c.args.pairs.now c.requires.known);
@@ -32,7 +32,7 @@ turns-requires-clause-within c =
     let es = c.args.elements.now in
     let pairs = c.args.pairs.now in
     let all : c.as_slice.result.now ≡ standing (sorted stands_before es) =
-    c.as_slice.ensures.value ∙ c.in_ok-all.ensures ∙ ap standing c.in_ok-by_name.ensures in
+    c.as_slice.ensures.value ∙ c.in_ok-all.ensures in
     let known = subst (λ l. AreKnown pairs l) (sym all) (standing_known es pairs c.requires.known) in
     subst (λ l. AreWithin l) (sym (c.lists.ensures ∙ c.in_ok-containers.ensures.containers)) (containers-within c.as_slice.result.now pairs known)
 
@@ -51,7 +51,7 @@ turns_at-requires-clause-within c =
     let es = c.args.elements.now in
     let pairs = c.args.pairs.now in
     let all : c.as_slice.result.now ≡ standing (sorted stands_before es) =
-    c.as_slice.ensures.value ∙ c.in_ok-all.ensures ∙ ap standing c.in_ok-by_name.ensures in
+    c.as_slice.ensures.value ∙ c.in_ok-all.ensures in
     let known = subst (λ l. AreKnown pairs l) (sym all) (standing_known es pairs c.requires.known) in
     subst (λ l. AreWithin l) (sym c.in_ok-containers.ensures.containers) (containers-within c.as_slice.result.now pairs known)
 
@@ -63,7 +63,7 @@ returns-clause-turns c =
     let once = standing_once es c.requires.once in
     let known = standing_known es pairs c.requires.known in
     let all : c.as_slice.result.now ≡ S =
-    c.as_slice.ensures.value ∙ c.in_ok-all.ensures ∙ ap standing c.in_ok-by_name.ensures in
+    c.as_slice.ensures.value ∙ c.in_ok-all.ensures in
     let again : c.as_slice-2.result.now ≡ S = c.as_slice-2.ensures.value ∙ sym c.as_slice.ensures.value ∙ all in
     let above : c.in_ok-containers.containers ≡ containers S pairs = c.in_ok-containers.ensures.containers ∙ ap (λ l. containers l pairs) all in
     let opening : 3 ≤ length S = omega arith in
@@ -86,5 +86,5 @@ returns-clause-others c =
     let es = c.args.elements.now in
     let pairs = c.args.pairs.now in
     let all : c.as_slice.result.now ≡ standing (sorted stands_before es) =
-    c.as_slice.ensures.value ∙ c.in_ok-all.ensures ∙ ap standing c.in_ok-by_name.ensures in
+    c.as_slice.ensures.value ∙ c.in_ok-all.ensures in
     c.in_ok-containers.ensures.others ∙ ap (λ l. others (drop 3 l) pairs) all ∙ others-sorted es pairs

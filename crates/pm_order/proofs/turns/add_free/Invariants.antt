@@ -4,4 +4,4 @@ use Rattle.pm_order.proofs.turns.add_free.Given as goal
 
 abbrev pub invariant-loop-place : goal.invariant-loop-place
 invariant-loop-place l =
-    (i : ℕ) → Contains l.free.keys i ↔ (Contains l.fn.free.keys i ⊎ (Contains (take l.place-index l.places) i × IsFree l.containers l.made i))
+    (i : ℕ) → Contains l.free i ↔ (Contains l.fn.free i ⊎ (Contains (take l.place-index l.places) i × IsFree l.containers l.made i))

@@ -1,8 +1,8 @@
-use Rattle.std.proofs.Common.{rules, ◌≡◌, ◌<◌, ◌∙◌, ap, sym, subst, length, true, ◌+◌, ◌-◌, [], ◌∷◌, ◌++◌, get_or, slice_set, Some, None, arith, append_assoc, Contains, vec_len}
+use Rattle.std.proofs.Common.{rules, ◌≡◌, ◌<◌, ◌∙◌, ap, refl, sym, subst, length, true, false, ◌+◌, ◌-◌, [], ◌∷◌, ◌++◌, get_or, slice_set, None, Some, arith, append_assoc, Contains, vec_len}
 use Rattle.std.proofs.lemmas.List.{append-nil, get_or_default, length-set}
-use Rattle.pm_order.specs.Ranked.{first_from, ranked, AreFree}
+use Rattle.pm_order.specs.Ranked.{first_from, ranked, AreFree, IsTaken}
 use Rattle.pm_order.proofs.Children.{child_there}
-use Rattle.pm_order.proofs.Free.{free-first, free-made, free-none, free_within, no-keys, AreFreeOf}
+use Rattle.pm_order.proofs.Free.{queued-free, queued-none, taken-first, taken-free, taken-made, AreFreeOf}
 use Rattle.pm_order.proofs.Least.{ranked_none, ranked_some}
 use Rattle.pm_order.proofs.turns.ranked.Goals as goal
 
@@ -10,33 +10,40 @@ pub loop-init : goal.loop-init
 loop-init c =
     let above = c.args.containers.now in (
       search rules,
-      subst (λ l. AreFree c.in_ok-free.free.keys above l) c.as_slice.ensures.value c.in_ok-free.ensures,
+      queued-free above c.args.made.items c.in_ok-free.free (subst (λ l. AreFree c.in_ok-free.free above l) c.as_slice.ensures.value c.in_ok-free.ensures),
       ap (λ l. l ++ ranked above (c.args.most - 0) c.args.made.items) c.in_ok-out.ensures.items
           ∙ ap (λ n. ranked above n c.args.made.items) (let e : c.args.most - 0 ≡ c.args.most = omega arith in e),
     )
 
 pub index_mut-requires : goal.index_mut-requires
 index_mut-requires c =
-    let there = free_within c.args.containers.now c.loop.made.items c.loop.free.keys c.in-Some.place c.pop_first.new.self.keys c.loop.invariant.1 c.in-Some.ensures.removal in
+    let k = c.in-Some.place in
+    let next = c.first_unmade.new.places in
+    let taken : IsTaken k c.loop.made.items c.loop.free next =
+    subst (λ m. IsTaken k m c.loop.free next) c.as_slice-in-loop.ensures.value c.in-Some.ensures.some in
+    let free = taken-free c.args.containers.now c.loop.made.items k c.loop.free next c.loop.invariant.1 taken in
+    let there = free.0 in
     let len : vec_len c.loop.made ≡ length c.loop.made.items = search rules in
     let many = c.loop.invariant.0 in omega (arith, there, len, many)
 
-pub offset_bounds-children-place : goal.offset_bounds-children-place
-offset_bounds-children-place c =
-    let there = free_within c.args.containers.now c.loop.made.items c.loop.free.keys c.in-Some.place c.pop_first.new.self.keys c.loop.invariant.1 c.in-Some.ensures.removal in
-    let parent : c.in-Some.place < length c.args.children.now = omega (arith, there, c.requires.count) in
-    search rules
-
 pub bounds-children-place : goal.bounds-children-place
 bounds-children-place c =
-    let there = free_within c.args.containers.now c.loop.made.items c.loop.free.keys c.in-Some.place c.pop_first.new.self.keys c.loop.invariant.1 c.in-Some.ensures.removal in
-    omega (arith, there, c.requires.count)
+    let k = c.in-Some.place in
+    let next = c.first_unmade.new.places in
+    let taken : IsTaken k c.loop.made.items c.loop.free next =
+    subst (λ m. IsTaken k m c.loop.free next) c.as_slice-in-loop.ensures.value c.in-Some.ensures.some in
+    let free = taken-free c.args.containers.now c.loop.made.items k c.loop.free next c.loop.invariant.1 taken in
+    let there = free.0 in omega (arith, there, c.requires.count)
 
 pub add_free-requires-clause-places : goal.add_free-requires-clause-places
 add_free-requires-clause-places c i h =
     let below = c.args.children.now in
     let k = c.in-Some.place in
-    let there = free_within c.args.containers.now c.loop.made.items c.loop.free.keys k c.pop_first.new.self.keys c.loop.invariant.1 c.in-Some.ensures.removal in
+    let next = c.first_unmade.new.places in
+    let taken : IsTaken k c.loop.made.items c.loop.free next =
+    subst (λ m. IsTaken k m c.loop.free next) c.as_slice-in-loop.ensures.value c.in-Some.ensures.some in
+    let free = taken-free c.args.containers.now c.loop.made.items k c.loop.free next c.loop.invariant.1 taken in
+    let there = free.0 in
     let parent : k < length below = omega (arith, there, c.requires.count) in
     let children : c.as_slice-in-Some-2.result.now ≡ get_or below k [] =
     c.as_slice-in-Some-2.ensures ∙ c.index-children-place.is ∙ get_or_default below k c.index-children-place.result [] parent in
@@ -46,8 +53,9 @@ pub returns-in-None : goal.returns-in-None
 returns-in-None c =
     let above = c.args.containers.now in
     let made = c.loop.made.items in
-    let empty : c.loop.free.keys ≡ [] = no-keys c.loop.free.keys c.in-None.ensures.variant.1 in
-    let none : first_from 0 made above ≡ None = free-none above made (subst (λ l. AreFree l above made) empty c.loop.invariant.1) in
+    let none : first_from 0 made above ≡ None =
+    queued-none above made c.loop.free c.loop.invariant.1
+    (subst (λ m. (i : _) → Contains c.loop.free i → get_or m i false ≡ true) c.as_slice-in-loop.ensures.value (c.in-None.ensures.none refl)) in
     sym (append-nil c.loop.out.items)
     ∙ ap (λ l. c.loop.out.items ++ l) (sym (ranked_none above (c.args.most - c.loop.counter) made none)) ∙ c.loop.invariant.2
 
@@ -57,10 +65,12 @@ loop-preserved c =
     let below = c.args.children.now in
     let made = c.loop.made.items in
     let k = c.in-Some.place in
-    let rest = c.pop_first.new.self.keys in
-    let free : AreFree (k ∷ rest) above made = subst (λ l. AreFree l above made) c.in-Some.ensures.removal c.loop.invariant.1 in
-    let some : first_from 0 made above ≡ Some k = free-first above made k rest free c.in-Some.ensures.all_above in
-    let there : k < length above = free_within above made c.loop.free.keys k rest c.loop.invariant.1 c.in-Some.ensures.removal in
+    let next = c.first_unmade.new.places in
+    let queued = c.loop.invariant.1 in
+    let taken : IsTaken k made c.loop.free next = subst (λ m. IsTaken k m c.loop.free next) c.as_slice-in-loop.ensures.value c.in-Some.ensures.some in
+    let some : first_from 0 made above ≡ Some k = taken-first above made k c.loop.free next queued taken in
+    let free = taken-free above made k c.loop.free next queued taken in
+    let there = free.0 in
     let many = c.loop.invariant.0 in
     let marked : k < length made = omega (arith, there, many) in
     let parent : k < length below = omega (arith, there, c.requires.count) in
@@ -68,12 +78,12 @@ loop-preserved c =
     c.as_slice-in-Some-2.ensures ∙ c.index-children-place.is ∙ get_or_default below k c.index-children-place.result [] parent in
     let n = c.args.most - (c.loop.counter + 1) in
     let test : c.loop.counter < c.args.most = c.loop-test.true in
-    let added : AreFreeOf above (slice_set made k true) rest (get_or below k []) c.add_free.new.free.keys =
-    subst (λ l. AreFreeOf above (slice_set made k true) rest l c.add_free.new.free.keys) children
-    (subst (λ m. AreFreeOf above m rest c.as_slice-in-Some-2.result.now c.add_free.new.free.keys) c.as_slice-in-Some.ensures.value c.in_ok-add_free-in-Some.ensures) in
+    let added : AreFreeOf above (slice_set made k true) next (get_or below k []) c.add_free.new.free =
+    subst (λ l. AreFreeOf above (slice_set made k true) next l c.add_free.new.free) children
+    (subst (λ m. AreFreeOf above m next c.as_slice-in-Some-2.result.now c.add_free.new.free) c.as_slice-in-Some.ensures.value c.in_ok-add_free-in-Some.ensures) in
     let later = ranked above n (slice_set made k true) in (
       length-set made k true ∙ many,
-      free-made above made k marked below rest c.add_free.new.free.keys c.requires.children free c.in-Some.ensures.all_above added,
+      taken-made above made k marked below c.loop.free next c.add_free.new.free c.requires.children queued taken added,
       ap (λ l. l ++ later) c.in_ok-push-in-Some.ensures.items
           ∙ append_assoc c.loop.out.items (k ∷ []) later
           ∙ ap (λ l. c.loop.out.items ++ l) (sym (ranked_some above n (c.args.most - c.loop.counter) k made some (omega (arith, test))))
