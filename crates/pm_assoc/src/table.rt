@@ -16,8 +16,8 @@ use pm_pages::PageList;
 use std::alloc::Global;
 use std::marker::Model;
 
-/// How many user attributes stand in a page.
-const ROOM: usize = 64;
+/// How many user attributes stand in a page. A change copies a page that a version shares, and each list in it.
+const ROOM: usize = 16;
 
 /// The associations: at most one of a user attribute on an element, and at most 65,536. Contracts see
 /// the user attributes that have associations, by rising number, each with its own in order of creation,

@@ -4,6 +4,7 @@ pub mod Firsts
 pub mod Groups
 pub mod Hits
 pub mod Meaning
+pub mod Nexts
 pub mod Orders
 pub mod Passed
 pub mod Privileges

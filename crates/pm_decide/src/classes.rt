@@ -2,10 +2,12 @@
 //! grant gives the right in it. Up to 64 classes are asked about together: a word has a bit for each,
 //! by its place among them.
 
-ghost use Rattle.std.specs.Prelude.{◌≡◌, ◌<◌, ◌≤◌, length};
+ghost use Rattle.std.specs.Prelude.{◌≡◌, ◌<◌, ◌≤◌, ◌+◌, length, drop, slice_get, Some, IfSome, All};
+ghost use Rattle.std.specs.List.{position_from};
 ghost use Rattle.pm_model.specs.Decision.{is_met, lacking, associations_of};
 ghost use Rattle.pm_model.specs.RightSet.{right_bits};
-ghost use Rattle.pm_decide.specs.Gives.{gives, some_gives};
+ghost use Rattle.pm_model.specs.declared.rights.Grant.{Grant};
+ghost use Rattle.pm_decide.specs.Gives.{some_gives, is_on};
 ghost use Rattle.pm_decide.specs.Hits.{AreHolders, in_word, some_of};
 ghost use Rattle.pm_decide.specs.Live.{IsLive, AllLive, EndsLive, IsAsked, GranteeLive};
 ghost use Rattle.pm_decide.specs.Unmet.{AreClasses, AreThose, AreLeft};
@@ -50,26 +52,37 @@ fn left_by_place<R: Reach>(reach: &mut R, classes: &[ElementId], unmet: u64, at:
     left
 }
 
-/// Those of the unmet classes in which the grant doesn't give the right on the element.
-fn left_by_grant<R: Reach>(
+/// The place of the first grant that has the right and is on what contains the element.
+fn next_on<R: Reach>(
     reach: &mut R,
-    classes: &[ElementId],
-    unmet: u64,
-    grant: Grant,
+    grants: &[Grant],
     right: u8,
     element: ElementId,
-) -> u64
-    requires unmet { AreClasses (R.relation reach.old) classes.now unmet }
-    requires at { IsLive (R.relation reach.old) grant.at }
+) -> Option<usize>
+    requires grants { All (λ (h : Grant). IsLive (R.relation reach.old) h.at) grants.now }
     requires right { right < right_bits }
     requires element { IsLive (R.relation reach.old) element }
-    ensures left { AreLeft (λ pc. gives (R.relation reach.old).below right element pc grant) classes.now unmet result }
+    ensures answer { result ≡ position_from (is_on (R.relation reach.old).below right element) 0 grants.now }
+    ensures within { IfSome result (λ i. i < length grants.now) }
     ensures same { R.relation reach.new ≡ R.relation reach.old }
 {
-    if grant.rights.has(right) && reach.contains(element, grant.at) {
-        return left_by_place(reach, classes, unmet, grant.at);
-    }
-    unmet
+    reach.first_on(element, right, grants)
+}
+
+/// The grant at a place.
+fn grant_at(grants: &[Grant], i: usize) -> Grant
+    requires { i < length grants.now }
+    ensures { slice_get grants.now i ≡ Some result }
+{
+    grants[i]
+}
+
+/// The grants behind a place.
+fn behind(grants: &[Grant], i: usize) -> &[Grant]
+    requires { i < length grants.now }
+    ensures { result.now ≡ drop (i + 1) grants.now }
+{
+    &grants[i + 1..]
 }
 
 /// Those of the unmet classes in which no grant of the user attribute gives the right on the element.
@@ -89,11 +102,15 @@ fn left_by_grants<R: Reach>(
     ensures same { R.relation reach.new ≡ R.relation reach.old }
 {
     let mut left = unmet;
-    for grant in grantee.grants.as_slice() {
-        if left == 0 {
-            return 0;
+    let mut rest = grantee.grants.as_slice();
+    while left > 0 {
+        match next_on(reach, rest, right, element) {
+            None => return left,
+            Some(i) => {
+                left = left_by_place(reach, classes, left, grant_at(rest, i).at);
+                rest = behind(rest, i);
+            }
         }
-        left = left_by_grant(reach, classes, left, *grant, right, element);
     }
     left
 }

@@ -7,6 +7,10 @@ ghost use Rattle.pm_decide.specs.Places.{some_on, NoneContains};
 
 use pm_model::{ElementId, GrantList, PlaceWord, Reach};
 
+/// To how many associations there is at most one word, where the words are looked at before the associations:
+/// a look at a word takes as long as one at an association.
+const GRANTS_A_WORD: usize = 4;
+
 /// Whether some number of the words contains the element.
 fn some_contains<R: Reach>(reach: &mut R, places: &[PlaceWord], element: ElementId) -> bool
     requires element { IsLive (R.relation reach.old) element }
@@ -29,5 +33,8 @@ pub(crate) fn may_be_on<R: Reach>(reach: &mut R, grants: &GrantList, element: El
     ensures same { R.relation reach.new ≡ R.relation reach.old }
 {
     let places = grants.places();
-    places.is_empty() || some_contains(reach, places, element)
+    if 0 < places.len() && places.len() <= grants.len() / GRANTS_A_WORD {
+        return some_contains(reach, places, element);
+    }
+    true
 }

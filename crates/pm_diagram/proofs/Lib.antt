@@ -1,3 +1,4 @@
 pub mod Containing
 pub mod Counting
 pub mod Drawing
+pub mod Telling

@@ -3,7 +3,7 @@
 ghost use Rattle.std.specs.Prelude.{◌≡◌};
 
 use crate::diagram::Diagram;
-use pm_model::{ElementId, Reach};
+use pm_model::{ElementId, Grant, Reach};
 use pm_reach::RowsView;
 use std::marker::Model;
 
@@ -64,5 +64,9 @@ impl<'a> Reach for Containment<'a> {
 
     fn may_hold(&mut self, y: ElementId, k: u32) -> bool {
         self.diagram.may_hold(y, k)
+    }
+
+    fn first_on(&mut self, x: ElementId, right: u8, grants: &[Grant]) -> Option<usize> {
+        self.rows.first_on(x, right, grants)
     }
 }

@@ -1,12 +1,8 @@
-//! Tests of what threads share: hand-offs, published versions, houses and workers. They stand in a crate of
-//! their own, since a crate with tests inside is proved once more with them.
+//! Tests of what threads share: houses and workers. They stand in a crate of their own, since a crate with tests
+//! inside is proved once more with them.
 #![tactic(auto)]
 
 #[cfg(test)]
-mod handoff;
-#[cfg(test)]
 mod house;
-#[cfg(test)]
-mod publish;
 #[cfg(test)]
 mod worker;

@@ -1,17 +1,19 @@
 //! What a decision asks of a state, as traits.
 
-ghost use Rattle.std.specs.Prelude.{◌≡◌, ℕ, Bool, true, false, ◌<◌, ◌≤◌, ◌+◌, ◌*◌, ◌/◌, ◌^◌, ◌==◌, List, [], ◌∷◌, length, slice_get, take, drop, filter, Some, IsTrue, All};
+ghost use Rattle.std.specs.Prelude.{◌≡◌, ℕ, Bool, true, false, ◌<◌, ◌≤◌, ◌+◌, ◌*◌, ◌/◌, ◌^◌, ◌==◌, ◌&&◌, List, [], ◌∷◌, length, slice_get, take, drop, filter, Some, IsTrue, All};
 ghost use Rattle.std.specs.Int.{bit_at};
-ghost use Rattle.std.specs.List.{list_any};
+ghost use Rattle.std.specs.List.{list_any, position_from};
 ghost use Rattle.pm_model.specs.Containment.{Relation, containers};
 ghost use Rattle.pm_model.specs.Decision.{Judgement, is_grantee};
+ghost use Rattle.pm_model.specs.RightSet.{has_right, right_bits};
+ghost use Rattle.pm_model.specs.declared.rights.Grant.{Grant};
 ghost use Rattle.pm_model.specs.declared.rights.Grantee.{Grantee};
 ghost use Rattle.pm_model.specs.declared.prohibitions.Prohibition.{Prohibition};
 
 use crate::elements::ElementId;
 use crate::names::Name;
 use crate::prohibitions::Prohibition;
-use crate::rights::{Grantee, Rights};
+use crate::rights::{Grant, Grantee, Rights};
 
 /// Containment, however it is kept. A question takes no memory.
 pub trait Reach {
@@ -40,6 +42,23 @@ pub trait Reach {
     {
         let _ = (y, k);
         true
+    }
+
+    /// The place of the first of these associations that has the right and is on what contains x. The right is a bit, and all
+    /// that they are on is live.
+    fn first_on(&mut self, x: ElementId, right: u8, grants: &[Grant]) -> Option<usize>
+        requires x_live { IsTrue ((relation self.old).live x) }
+        requires right { right < right_bits }
+        requires places { All (λ (h : Grant). IsTrue ((relation self.old).live h.at)) grants.now }
+        ensures answer { result ≡ position_from (λ (h : Grant). has_right h.rights right && (relation self.old).below x h.at) 0 grants.now }
+        ensures same { relation self.new ≡ relation self.old }
+    {
+        for (i, grant) in grants.iter().enumerate() {
+            if grant.rights.has(right) && self.contains(x, grant.at) {
+                return Some(i);
+            }
+        }
+        None
     }
 }
 

@@ -7,7 +7,7 @@ ghost use Rattle.pm_reach.specs.View.{IsRowOf};
 
 use crate::reach::ReachRows;
 use crate::words;
-use pm_model::{ElementId, Reach};
+use pm_model::{ElementId, Grant, Reach};
 use std::marker::Model;
 
 /// A number that no element has.
@@ -102,5 +102,11 @@ impl<'a> Reach for RowsView<'a> {
 
     fn may_hold(&mut self, y: ElementId, k: u32) -> bool {
         self.rows.may_hold(y, k)
+    }
+
+    fn first_on(&mut self, x: ElementId, right: u8, grants: &[Grant]) -> Option<usize> {
+        let words = self.bits.words_of(self.rows, x);
+        grants.iter().position(|grant| grant.rights.has(right)
+            && words::has(words, grant.at.number()))
     }
 }

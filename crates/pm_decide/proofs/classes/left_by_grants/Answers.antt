@@ -1,30 +1,61 @@
--- The grant at the index leaves what those after it leave less of.
-use Rattle.std.proofs.Common.{ℕ, Bool, drop, ◌+◌, refl, ◌∙◌}
-use Rattle.std.proofs.lemmas.Option.{slice_get_read}
+-- The next grant that can matter leaves what those behind it leave less of.
+use Rattle.std.proofs.Common.{◌≡◌, ℕ, Bool, ◌+◌, refl, ◌∙◌, arith}
 use Rattle.std.specs.List.{list_any}
+use Rattle.std.proofs.lemmas.Option.{get_or_from_slice_get}
+use Rattle.std.proofs.lemmas.List.Elements.{All-get_or, All-drop}
 use Rattle.pm_model.specs.declared.rights.Grant.{Grant}
 use Rattle.pm_decide.specs.Gives.{gives}
-use Rattle.pm_decide.proofs.Walks.{any-drop}
-use Rattle.pm_decide.proofs.Unmet.{left-live, leaving-more, leaving-none}
+use Rattle.pm_decide.specs.Live.{IsLive}
+use Rattle.pm_decide.proofs.Nexts.{next-none, next-gives}
+use Rattle.pm_decide.proofs.Unmet.{left-live, leaving-begun, leaving-more, leaving-done, leaving-none}
 use Rattle.pm_decide.proofs.classes.left_by_grants.Goals as goal
 
-pub returns-then-left-eq0-clause-left : goal.returns-then-left-eq0-clause-left
-returns-then-left-eq0-clause-left g c =
-    leaving-none c.args.classes.now _ _ c.args.unmet c.loop-grant.left c.loop-grant.invariant.leaving c.if-left-eq0.true
-
-pub loop-grant-preserved : goal.loop-grant-preserved
-loop-grant-preserved g c =
-    let relation = g.R.Reach.relation c.args.reach.now in
-    let all = c.args.grantee.now.grants in
-    let test : ℕ → Grant → Bool = gives relation.below c.args.right c.args.element in
-    let i = c.loop-grant.grant-index in
-    let grant = c.grant-item.result in
-    let pcs = c.args.classes.now in
-    let left = rw c.loop-grant.invariant.same at c.left_by_grant-left.ensures.left in
+pub loop-left-init : goal.loop-left-init
+loop-left-init g c =
+    let test : ℕ → Grant → Bool = gives (g.R.Reach.relation c.args.reach.now).below c.args.right c.args.element in
+    let whole : ℕ → Bool = λ pc. list_any (test pc) c.args.grantee.now.grants in
     record {
-      same = c.left_by_grant-left.ensures.same ∙ c.loop-grant.invariant.same;
-      classes = left-live relation (λ pc. test pc grant) pcs c.loop-grant.left c.left_by_grant-left.result c.loop-grant.invariant.classes left;
-      leaving = leaving-more pcs (λ pc. test pc grant) (λ pc. list_any (test pc) (drop (i + 1) all)) (λ pc. list_any (test pc) (drop i all))
-          (λ pc. list_any (test pc) all) c.args.unmet c.loop-grant.left c.left_by_grant-left.result c.loop-grant.invariant.leaving left
-          (λ pc. any-drop (test pc) all i grant (rw c.as_slice-grant-items.ensures at (slice_get_read _ _ _ _ refl c.loop-grant-test.true c.grant-item.is)));
+      same = refl;
+      classes = c.requires.unmet;
+      places = rw c.as_slice-rest.ensures c.requires.grantee.places;
+      leaving = leaving-begun c.args.classes.now _ whole c.args.unmet (λ pc. rw c.as_slice-rest.ensures refl);
     }
+
+pub returns-in-None-clause-left : goal.returns-in-None-clause-left
+returns-in-None-clause-left g c =
+    leaving-done c.args.classes.now _ _ c.args.unmet c.loop-left.left c.loop-left.invariant.leaving
+    (next-none (g.R.Reach.relation c.args.reach.now).below c.args.right c.args.element c.loop-left.rest.now
+    (rw c.loop-left.invariant.same at c.in-None.ensures.answer))
+
+pub left_by_place-left-requires-clause-at : goal.left_by_place-left-requires-clause-at
+left_by_place-left-requires-clause-at g c =
+    rw (c.next_on.ensures.same, c.loop-left.invariant.same)
+    (rw (get_or_from_slice_get c.loop-left.rest.now c.in-Some.i _ c.grant_at.result c.grant_at.ensures) at
+    (All-get_or (λ (h : Grant). IsLive (g.R.Reach.relation c.args.reach.now) h.at) c.loop-left.rest.now c.in-Some.i c.grant_at.result
+    c.in-Some.ensures.within c.loop-left.invariant.places))
+
+pub loop-left-preserved : goal.loop-left-preserved
+loop-left-preserved g c =
+    let relation = g.R.Reach.relation c.args.reach.now in
+    let test : ℕ → Grant → Bool = gives relation.below c.args.right c.args.element in
+    let pcs = c.args.classes.now in
+    let rest = c.loop-left.rest.now in
+    let i = c.in-Some.i in
+    let at = c.grant_at.result.at in
+    let left = rw (c.next_on.ensures.same, c.loop-left.invariant.same) at c.left_by_place-left.ensures.left in
+    record {
+      same = c.left_by_place-left.ensures.same ∙ c.next_on.ensures.same ∙ c.loop-left.invariant.same;
+      classes = left-live relation (relation.below at) pcs c.loop-left.left c.left_by_place-left.result c.loop-left.invariant.classes left;
+      places = rw c.behind-rest.ensures (All-drop (λ (h : Grant). IsLive relation h.at) (i + 1) rest c.loop-left.invariant.places);
+      leaving = leaving-more pcs (relation.below at) (λ pc. list_any (test pc) c.behind-rest.result.now) (λ pc. list_any (test pc) rest)
+          (λ pc. list_any (test pc) c.args.grantee.now.grants) c.args.unmet c.loop-left.left c.left_by_place-left.result
+          c.loop-left.invariant.leaving left
+          (λ pc. rw c.behind-rest.ensures (next-gives relation.below c.args.right c.args.element rest i c.grant_at.result
+          (rw c.loop-left.invariant.same at c.in-Some.ensures.answer)
+          c.grant_at.ensures pc));
+    }
+
+pub returns-clause-left : goal.returns-clause-left
+returns-clause-left g c =
+    let none : c.loop-left.left ≡ 0 = omega (arith, c.loop-left-test.false) in
+    rw none (leaving-none c.args.classes.now _ _ c.args.unmet c.loop-left.left c.loop-left.invariant.leaving none)

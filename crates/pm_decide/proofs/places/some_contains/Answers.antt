@@ -1,5 +1,5 @@
 -- The row and the word have no bit in common.
-use Rattle.std.proofs.Common.{◌≡◌, ℕ, suc, ◌+◌, ◌++◌, [], ◌∷◌, take, get_or, arith, ap, sym, subst, ◌∙◌}
+use Rattle.std.proofs.Common.{◌≡◌, suc, ◌+◌, take, get_or, arith, ap, sym, subst, ◌∙◌}
 use Rattle.std.proofs.Math.Seq.{take-suc}
 use Rattle.pm_model.specs.declared.grants.PlaceWord.{PlaceWord}
 use Rattle.pm_decide.specs.Places.{NoneContains}

@@ -1,6 +1,6 @@
 use Rattle.std.proofs.Common.{◌≡◌, rules, arith}
 use Rattle.pm_publish.proofs.Longer.{so_many_begins}
-use Rattle.pm_house_tests.proofs.publish.publish_length.Goals as goal
+use Rattle.pm_publish_tests.proofs.publish.publish_length.Goals as goal
 
 pub publish-requires : goal.publish-requires
 publish-requires g c =

@@ -1,0 +1,5 @@
+use Rattle.pm_diagram.proofs.Telling.{told-again}
+use Rattle.pm_diagram.proofs.containment.ContainmentReach.first_on.Goals as goal
+
+pub invariant_of-self : goal.invariant_of-self
+invariant_of-self c = told-again c.self.inside.diagram.now c.self.inside.rows c.first_on.new.self c.first_on.ensures.same c.self.invariant
