@@ -32,11 +32,12 @@ pub use words::{holders_above, lowest, without_bit};
 ///
 /// Takes no memory. Each class costs one question of containment. Where some contain the element, the
 /// associations are walked once for up to 64 classes: each word of 64 numbers in which there are user
-/// attributes with associations costs one question more. Of those that contain the user, each word that
-/// tells what a long list of grants is on costs one; the list is passed by if none has what contains the
-/// element. Else each grant of the right costs one, and where what it is on contains the element, one
-/// more for each class in which none before gave the right. It ends as soon as each class is met, or with
-/// the 64 classes among which one isn't.
+/// attributes with associations costs one question more. Of those that contain the user, one with a long
+/// list of grants, four or more to each word that tells what they are on, costs a question for each such
+/// word, up to the first that has what contains the element, and is passed by if none has. Else each grant
+/// of the right costs one, and where what it is on contains the element, one more for each class in which
+/// none before gave the right. It ends as soon as each class is met, or with the 64 classes among which
+/// one isn't.
 pub fn privilege<R: Reach, G: Grants>(
     reach: &mut R,
     grants: &G,

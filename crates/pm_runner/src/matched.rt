@@ -1,13 +1,13 @@
 //! Which obligations match an event.
 
-ghost use Rattle.std.specs.Prelude.{◌≡◌, ◌<◌, ◌≤◌, ℕ, Bool, true, false, List, [], Option, length, nat_lt, All, IfOk, IsOk, IsTrue};
+ghost use Rattle.std.specs.Prelude.{◌≡◌, ◌<◌, ◌≤◌, ℕ, Bool, true, false, List, [], Option, length, nat_lt, slice_get, All, IfOk, IsOk, IsTrue, Some};
 ghost use Rattle.std.specs.List.{list_any, remove};
 ghost use Rattle.pm_model.specs.Obligations.{is_in_given, matching, max_obligations};
 ghost use Rattle.pm_model.specs.declared.obligations.Obligation.{Obligation};
 ghost use Rattle.pm_model.specs.declared.events.Event.{Event};
 ghost use Rattle.pm_oblig.specs.Awaited.{in_words, has_target};
 ghost use Rattle.pm_pattern.specs.Live.{IsEventLive};
-ghost use Rattle.pm_runner.specs.Standing.{StandAt, ArePatternsLive, is_at, is_match, without};
+ghost use Rattle.pm_runner.specs.Standing.{StandAt, ArePatternsLive, IsRunOf, is_at, is_match, without};
 
 use pm_model::{ElementId, Event, ItemList, Memory, Obligation, Reach};
 use pm_oblig::{Obligations, TargetWord, Targets};
@@ -23,6 +23,39 @@ fn is_at(left_out: Option<u32>, i: usize) -> bool
     match left_out {
         None => false,
         Some(index) => index as usize == i,
+    }
+}
+
+/// Obligations that stand together in their list, from a place on.
+#[derive(Clone, Copy)]
+struct LastRun<'a> {
+    begin: usize,
+    items: &'a [Obligation],
+}
+
+impl<'a> LastRun<'a> {
+    /// None of any list.
+    fn none() -> LastRun<'a>
+        ensures { (obligations : List Obligation) → IsRunOf obligations result }
+    {
+        LastRun {
+            begin: 0,
+            items: &[],
+        }
+    }
+
+    /// The obligation at a place. Those that it stands with are found once for all of them.
+    fn at(&mut self, obligations: &'a Obligations, i: usize) -> &'a Obligation
+        requires run { IsRunOf obligations.now.items self.old }
+        requires place { i < length obligations.now.items }
+        ensures obligation { slice_get obligations.now.items i ≡ Some result.now }
+        ensures run { IsRunOf obligations.now.items self.new }
+    {
+        if i < self.begin || i - self.begin >= self.items.len() {
+            self.begin = i;
+            self.items = obligations.obligations_from(i);
+        }
+        &self.items[i - self.begin]
     }
 }
 
@@ -46,12 +79,13 @@ fn places_of<R: Reach>(
         return Ok(PositionList::new(alloc));
     }
     let mut places = PositionList::new(alloc);
+    let mut last = LastRun::none();
     for i in 0..obligations.len() {
         if is_at(left_out, i) {
             continue;
         }
-        let pattern = &obligations.at(i).pattern;
-        if matches(pattern, event, reach) {
+        let obligation = last.at(obligations, i);
+        if matches(&obligation.pattern, event, reach) {
             places.push(i as u32)?;
         }
     }

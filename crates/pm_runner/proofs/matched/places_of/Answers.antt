@@ -15,13 +15,13 @@ returns-in_err-push-clause-free g c none =
     let before = g.R.Reach.relation c.args.reach.now in
     let other : is_at c.args.left_out c.loop-i.i ≡ false = sym c.is_at.ensures ∙ c.if-is_at.false in
     let passes = rw c.loop-i.invariant.same at c.if-matches.ensures.answer in
-    let fails = fails-left (is_match before.below c.args.event.now) c.args.left_out c.args.obligations.now.items c.loop-i.i c.at.result.now c.at.ensures other none in
+    let fails = fails-left (is_match before.below c.args.event.now) c.args.left_out c.args.obligations.now.items c.loop-i.i c.at-obligation.result.now c.at-obligation.ensures.obligation other none in
     absurd (cc)
 
 pub matches-requires-clause-pattern : goal.matches-requires-clause-pattern
 matches-requires-clause-pattern g c =
     rw c.loop-i.invariant.same
-    (live-at (g.R.Reach.relation c.args.reach.now) c.args.obligations.now.items c.loop-i.i c.at.result.now c.requires.patterns c.at.ensures)
+    (live-at (g.R.Reach.relation c.args.reach.now) c.args.obligations.now.items c.loop-i.i c.at-obligation.result.now c.requires.patterns c.at-obligation.ensures.obligation)
 
 pub loop-i-preserved : goal.loop-i-preserved
 loop-i-preserved g c =
@@ -30,17 +30,19 @@ loop-i-preserved g c =
       | then-matches+in_ok-push w ↦ record {
         same = c.matches.ensures.same ∙ c.loop-i.invariant.same;
         places = rw (w.places-is, w.in_ok-push.ensures.ok)
-            (one-passes _ c.args.left_out _ c.loop-i.places c.loop-i.i c.at.result.now c.loop-i.invariant.places c.at.ensures other
+            (one-passes _ c.args.left_out _ c.loop-i.places c.loop-i.i c.at-obligation.result.now c.loop-i.invariant.places c.at-obligation.ensures.obligation other
             (rw c.loop-i.invariant.same at w.if-matches.ensures.answer));
         below = rw (w.places-is, w.in_ok-push.ensures.ok) (below-more _ c.loop-i.places c.loop-i.i c.loop-i.invariant.below (omega arith));
         few = rw (w.places-is, w.in_ok-push.ensures.ok) (omega (arith, length-append c.loop-i.places (c.loop-i.i ∷ [])));
+        run = c.at-obligation.ensures.run;
       }
       | else-matches w ↦ record {
         same = c.matches.ensures.same ∙ c.loop-i.invariant.same;
         places = rw w.places-is
-            (one-fails _ c.args.left_out _ c.loop-i.places c.loop-i.i c.at.result.now c.loop-i.invariant.places c.at.ensures other
+            (one-fails _ c.args.left_out _ c.loop-i.places c.loop-i.i c.at-obligation.result.now c.loop-i.invariant.places c.at-obligation.ensures.obligation other
             (rw c.loop-i.invariant.same at w.if-matches.ensures.answer));
         below = rw w.places-is c.loop-i.invariant.below;
         few = rw w.places-is (omega arith);
+        run = c.at-obligation.ensures.run;
       }
     ]
