@@ -39,6 +39,7 @@ impl Asked {
 
 impl Region {
     /// Whether a user has a row of those that are near, or an element is near.
+    #[inline(never)]
     fn is_near_on<R: Reach>(&self, side: Side, x: ElementId, reach: &mut R) -> bool
         requires region { RegionLive (R.relation reach.old) self.now }
         requires x { IsLive (R.relation reach.old) x }
@@ -52,6 +53,7 @@ impl Region {
     }
 
     /// Whether that may be so of some number from 64 k on, of 64 of them: never no where it is.
+    #[inline(never)]
     #[tactic(auto, using(crate::proofs::Rows::no_row_near))]
     fn may_be_near_on<R: Reach>(&self, side: Side, k: u32, reach: &mut R) -> bool
         ensures none { result ≡ false → (x : ℕ) → IsLive (R.relation reach.old) x → x / 64 ≡ k → near_on side (R.relation reach.old).below self.now x ≡ false }
