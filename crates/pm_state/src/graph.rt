@@ -8,6 +8,7 @@ ghost use Rattle.pm_model.specs.Made.{made_by};
 ghost use Rattle.pm_model.specs.RightSet.{bit_named, right_bits};
 ghost use Rattle.pm_affect.specs.Counting.{rows_of};
 ghost use Rattle.pm_state.specs.Repairs.{drops_review};
+ghost use Rattle.pm_state.specs.Shown.{graph_of};
 ghost use Rattle.pm_state.specs.declared.done.Done.{Done};
 ghost use Rattle.pm_reach.specs.Changes.{TellContainment};
 ghost use Rattle.pm_reach.specs.Rows.{has};
@@ -29,7 +30,8 @@ use std::marker::Model;
 
 /// All that commands change. Contracts see the lists, which are well formed.
 pub struct Graph {
-    tables: Tables,
+    /// On the heap, so that what has a graph is moved in a few words.
+    tables: Box<Tables>,
 }
 
 impl Drop for Graph {
@@ -51,6 +53,16 @@ impl Model for Graph {
 }
 
 impl Graph {
+    /// The graph of these tables.
+    fn of(alloc: Global, tables: Tables) -> Result<Graph, Memory>
+        requires formed { IsWellFormed (graph_of tables) }
+        requires classes { tables.classes ≡ classes_in (graph_of tables).elements }
+        ensures { IfOk result (λ g. g ≡ graph_of tables) }
+    {
+        let tables = Box::new(alloc, tables)?;
+        Ok(Graph { tables })
+    }
+
     /// The graph of the opening state.
     pub(crate) fn opening(alloc: Global) -> Result<Graph, Memory>
         ensures { IfOk result (λ g. g ≡ opening.graph) }
@@ -64,18 +76,17 @@ impl Graph {
         let rights = RightNames::opening(alloc)?;
         let procs = Procs::opening(alloc)?;
         let kept = KeptReviews::new(alloc);
-        Ok(Graph {
-            tables: Tables {
-                diagram,
-                assoc,
-                deny,
-                oblig,
-                rights,
-                procs,
-                kept,
-                classes,
-            },
-        })
+        let tables = Tables {
+            diagram,
+            assoc,
+            deny,
+            oblig,
+            rights,
+            procs,
+            kept,
+            classes,
+        };
+        Graph::of(alloc, tables)
     }
 
     /// What each graph keeps.
@@ -186,7 +197,7 @@ impl Graph {
         ensures { IfOk result (λ same. same ≡ self.now) }
     {
         let tables = self.tables.copy()?;
-        Ok(Graph { tables })
+        Graph::of(*Box::allocator(&self.tables), tables)
     }
 
     /// Tells the first precondition of a change that isn't met, and changes nothing.
